@@ -1,4 +1,5 @@
-"""Tests `canbusd bits`: the bits of frames agree with an independent model (wire_model.py) and with the bits that pages show."""
+"""Tests `canbusd bits`: the bits of frames agree with an independent model (wire_model.py) and with the bits that pages
+show."""
 
 from __future__ import annotations
 
@@ -17,8 +18,8 @@ from serving import ROOT, program
 from wire_model import Frame, arbitration_bits, bit_counts, random_frames, sent
 
 INTERMISSION = [1, 1, 1]
-# These bits are worked out by hand: 34 zeros including those of the CRC, with a stuff bit after every five zeros. The other frames
-# differ from frame 000# in the last bit of the identifier, and in RTR.
+# These bits are worked out by hand: 34 zeros including those of the CRC, with a stuff bit after every five zeros. The
+# other frames differ from frame 000# in the last bit of the identifier, and in RTR.
 ZEROS = """SOF            0
 identifier     0000(1)00000(1)00
 RTR            0

@@ -8,7 +8,8 @@ import pytest
 from commands import call, run_line
 from serving import program
 
-# Refused command lines. test_long_runs.py tests other refused words, and test_devices.py tests failing files and streams.
+# Refused command lines. test_long_runs.py tests other refused words, and test_devices.py tests failing files and
+# streams.
 NO_JOB = [
     "",
     "serve",
@@ -319,7 +320,8 @@ def test_buses_that_memory_is_too_small_for(line, note, tmp_path):
 
 
 def test_addresses_that_are_taken(tmp_path):
-    """For a port in use the report has a note. A file that is no socket stays, and so does a socket at which a program listens."""
+    """For a port in use the report has a note. A file that is no socket stays, and so does a socket at which a program
+    listens."""
 
     def refused(address, note=""):
         errors = f"canbusd: cannot listen\n  {address}: Address already in use (os error 98)\n{note}"

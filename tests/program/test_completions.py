@@ -67,7 +67,8 @@ TYPED = [
     ("canbusd serve --lo", ""),
     ("canbusd serve --str", ""),
 ]
-# The beginning of an option that takes a value, and the rest of the option's name. A shell adds its own sign after the name.
+# The beginning of an option that takes a value, and the rest of the option's name. A shell adds its own sign after the
+# name.
 OPTIONS = [
     ("canbusd bench --lo", "g"),
     ("canbusd bench --rec", "ord"),

@@ -1,8 +1,8 @@
-"""Tests the package that scripts/deb makes: what lintian reports, and in a clean Debian of each suite how apt installs the package,
-what it runs, and what it leaves.
+"""Tests the package that scripts/deb makes: what lintian reports, and in a clean Debian of each suite how apt installs
+the package, what it runs, and what it leaves.
 
-If the glibc of a suite is too old, apt must refuse the package. BASES names a folder with a debootstrap of each suite (debootstrap
---variant=minbase); without BASES the tests make them.
+If the glibc of a suite is too old, apt must refuse the package. BASES names a folder with a debootstrap of each suite
+(debootstrap --variant=minbase); without BASES the tests make them.
 """
 
 import os
@@ -150,8 +150,8 @@ def traces(debian):
 
 @pytest.mark.parametrize("suite", ["bookworm", "bullseye"])
 def test_package(package, glibc, suite, tmp_path):
-    """The package is installed, runs and is removed without a trace. If glibc is too old, apt refuses the package and the program
-    does not run."""
+    """The package is installed, runs and is removed without a trace. If glibc is too old, apt refuses the package and
+    the program does not run."""
     debian = Debian(tmp_path, suite, package)
     if debian.has_glibc(glibc):
         debian.does("sh", "-c", APT_INSTALL)

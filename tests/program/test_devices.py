@@ -1,8 +1,9 @@
 """Tests files and streams that fail, and what canbusd reports and writes then.
 
-Each file and stream of `bench`, `audit` and `serve` is, in turn, closed, full (/dev/full), a folder, missing, unreadable
-(/proc/self/mem), not text, endless, a pipe that nobody reads, or a file that may grow to only a few bytes. Each run must end with
-the first line that the manual page has for its fault. A fault of one file must leave the other files complete.
+Each file and stream of `bench`, `audit` and `serve` is, in turn, closed, full (/dev/full), a folder, missing,
+unreadable (/proc/self/mem), not text, endless, a pipe that nobody reads, or a file that may grow to only a few bytes.
+Each run must end with the first line that the manual page has for its fault. A fault of one file must leave the other
+files complete.
 """
 
 import contextlib
@@ -47,8 +48,8 @@ def nothing():
 
 
 def run(*words, closes=None, most=resource.RLIM_INFINITY, **streams):
-    """Runs the program with these streams, of which one may be closed, and with a limit on its memory. Returns its status, its
-    output, and the first line of its standard error."""
+    """Runs the program with these streams, of which one may be closed, and with a limit on its memory. Returns its
+    status, its output, and the first line of its standard error."""
 
     def begin():
         resource.setrlimit(resource.RLIMIT_AS, (most, most))
@@ -106,7 +107,8 @@ def test_output_of_a_bench(tmp_path):
 
 
 def test_errors_of_a_bench():
-    """If standard error is closed, full, or a pipe that nobody reads, the output and the status of a bench stay the same."""
+    """If standard error is closed, full, or a pipe that nobody reads, the output and the status of a bench stay the
+    same."""
     for stream in (unread_pipe, full, nothing):
         with stream() as errors:
             closes = 2 if errors is None else None
@@ -135,7 +137,8 @@ def test_script_of_a_bench(tmp_path):
 
 
 def test_record_of_a_bench(tmp_path):
-    """A bench reports a record that is full, a folder, in a missing folder, or a pipe that nobody reads. Its output is complete."""
+    """A bench reports a record that is full, a folder, in a missing folder, or a pipe that nobody reads. Its output is
+    complete."""
     for path, fault in [
         ("/dev/full", "write fault"),
         ("/", "cannot open /"),
@@ -157,8 +160,8 @@ def test_record_of_a_bench(tmp_path):
 
 
 def test_log_of_a_bench(tmp_path):
-    """A bench reports a log that is full, a folder, in a missing folder, or a file that may not grow. Its output and its record are
-    complete."""
+    """A bench reports a log that is full, a folder, in a missing folder, or a file that may not grow. Its output and
+    its record are complete."""
     line = "(0000000023.424242) can0 123#11223344\n"
     log, record = os.path.join(tmp_path, "run.log"), os.path.join(tmp_path, "run.rec")
     for path, fault in [
@@ -182,8 +185,8 @@ def test_log_of_a_bench(tmp_path):
 
 
 def may_grow(most, errors=None):
-    """Returns a function that limits the size of files to this many bytes; larger writes are refused. It may also replace standard
-    error by a pipe."""
+    """Returns a function that limits the size of files to this many bytes; larger writes are refused. It may also
+    replace standard error by a pipe."""
 
     def begin():
         if errors is not None:
@@ -220,7 +223,8 @@ def test_file_of_an_audit():
 
 @contextlib.contextmanager
 def ended(*words, before=lambda folder: None, **how):
-    """Runs a server of two buses with two frames on the first bus, and ends it. Yields the server, its status, and its output."""
+    """Runs a server of two buses with two frames on the first bus, and ends it. Yields the server, its status, and its
+    output."""
     with serving_alone("--pace", "0", *words, "can0,can1", "can2", **how) as server:
         before(server.folder)
         pair = Pair(server)
@@ -269,8 +273,10 @@ def leave_old(folder):
 
 
 def test_logs_that_grow_to_a_limit():
-    """A log that reaches a size limit has only complete lines. The log of an earlier run stays, and the new log is next to it."""
-    # The length of this line for a frame with a 29-bit identifier and 4 bytes: (SSSSSSSSSS.MMMMMM) can0 00000000#00000001 and LF.
+    """A log that reaches a size limit has only complete lines. The log of an earlier run stays, and the new log is next
+    to it."""
+    # The length of this line for a frame with a 29-bit identifier and 4 bytes: (SSSSSSSSSS.MMMMMM) can0
+    # 00000000#00000001 and LF.
     line = 43
     note = "  what was written is in ./can0.log.new: the old file ./can0.log stays as it is\n"
     for most, count, is_first in [
@@ -320,7 +326,8 @@ def test_output_of_a_server():
 
 
 def test_input_of_a_server():
-    """An input that is empty, a folder or unreadable ends a server with --until-eof. Without --until-eof the input is not read."""
+    """An input that is empty, a folder or unreadable ends a server with --until-eof. Without --until-eof the input is
+    not read."""
     for path in ("/", UNREADABLE, "/dev/null"):
         file = os.open(path, os.O_RDONLY)
         status, output, errors = run("serve", "--listen", "127.0.0.1:0", "--until-eof", "can0", stdin=file)
@@ -346,7 +353,8 @@ def test_a_full_standard_error_of_a_server(tmp_path):
 
 
 def test_addresses_of_a_server(server, tmp_path):
-    """A server refuses an address that is in a missing folder, is an existing file, is a port in use, or is not an address."""
+    """A server refuses an address that is in a missing folder, is an existing file, is a port in use, or is not an
+    address."""
     there = tmp_path / "there"
     there.touch()
     taken = f"{server.host}:{server.port}"

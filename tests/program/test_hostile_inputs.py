@@ -1,9 +1,9 @@
 """Tests random and damaged inputs of `canbusd bench` and `audit`.
 
-Inputs are the examples, a record, and random bytes. Bytes, words and lines of them are changed, doubled, moved or cut. A run may
-end with status 0. It may also end with status 1 and one fault line that the manual page lists, followed by at most three lines of
-printable characters that begin with two spaces. A run may not be ended by a signal, take more than 20 seconds, or write more than
-its input can ask for.
+Inputs are the examples, a record, and random bytes. Bytes, words and lines of them are changed, doubled, moved or cut.
+A run may end with status 0. It may also end with status 1 and one fault line that the manual page lists, followed by at
+most three lines of printable characters that begin with two spaces. A run may not be ended by a signal, take more than
+20 seconds, or write more than its input can ask for.
 """
 
 import glob
@@ -99,7 +99,8 @@ def fault_of(program, words, text):
 
 
 def test_inputs_of_bench_and_audit(program, rng, cases, tmp_path):
-    """The bench and the audit report faults of random inputs in the required form. Inputs for which they do not are kept."""
+    """The bench and the audit report faults of random inputs in the required form. Inputs for which they do not are
+    kept."""
     inputs = []
     for path in sorted(glob.glob(os.path.join(ROOT, "examples", "*.bench"))):
         with open(path, "rb") as file:

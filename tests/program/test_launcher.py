@@ -1,7 +1,7 @@
 """Tests the launcher ./canbusd in a copy of the repository whose dist/ fits its sources, and the installed launcher.
 
-The launcher is called from other folders, after changes of the sources, and in a copy that can't be written. Nothing is ever built:
-the command rt is not on the PATH, or only waits.
+The launcher is called from other folders, after changes of the sources, and in a copy that can't be written. Nothing is
+ever built: the command rt is not on the PATH, or only waits.
 """
 
 import contextlib
@@ -84,7 +84,8 @@ def on_path(folder):
 
 
 def test_calls(copy, tmp_path):
-    """The launcher works in repeated calls, from other folders, through a link and on the PATH, and returns the program's status.
+    """The launcher works in repeated calls, from other folders, through a link and on the PATH, and returns the
+    program's status.
     """
     assert [copy.status("./canbusd", "--version") for _ in range(2)] == [0, 0]
     assert copy.status("./canbusd", "bench") == 2
@@ -170,8 +171,8 @@ def test_file_past_its_limit(copy):
     assert not record.exists()
 
 
-# Texts to append to files that are not part of the program: files of another crate, a file of a proof, a new .edit file, and a new
-# crate in the list of crates.
+# Texts to append to files that are not part of the program: files of another crate, a file of a proof, a new .edit
+# file, and a new crate in the list of crates.
 OTHERS = {
     "crates/can_audit/src/lib.rt": "// a remark\n",
     "crates/can_audit/specs/Lib.antt": "-- a remark\n",
@@ -179,7 +180,8 @@ OTHERS = {
     "crates/can_confine/wrong/new.edit": "",
     "crates.txt": "# A remark.\ncan_new: can_bus canbusd\n",
 }
-# Texts to append to files of the program: a source file, a definition, a new definition, and a line of one of its crates.
+# Texts to append to files of the program: a source file, a definition, a new definition, and a line of one of its
+# crates.
 OWN = {
     "crates/can_frame/src/lib.rt": "// a remark\n",
     "crates/can_frame/specs/Lib.antt": "-- a remark\n",
@@ -190,7 +192,8 @@ OWN = {
 
 @pytest.mark.parametrize("file", OTHERS)
 def test_what_makes_no_other_program(copy, file):
-    """If a file outside the program changes, the program still fits its sources, both for the launcher and for a new search."""
+    """If a file outside the program changes, the program still fits its sources, both for the launcher and for a new
+    search."""
     assert copy.status("./canbusd", "--version") == 0
     append(copy.folder / file, OTHERS[file])
     assert copy.status("./canbusd", "--version") == 0
@@ -247,7 +250,8 @@ def test_installed(copy, tmp_path):
 
 
 def test_installed_off_the_path(copy, tmp_path):
-    """Installed commands of the package find the program even if it is not on the PATH, unless CANBUSD names another program."""
+    """Installed commands of the package find the program even if it is not on the PATH, unless CANBUSD names another
+    program."""
     place = tmp_path / "a place" / "y"
     copy.make("install", f"PREFIX={place}")
     record = tmp_path / "run.rec"
@@ -262,7 +266,8 @@ def test_installed_off_the_path(copy, tmp_path):
 
 
 def test_installed_in_a_folder_of_the_user(copy, tmp_path):
-    """make install prints the PYTHONPATH that python3 needs, and nothing if it is set already. In PREFIX, ~ is the user's folder.
+    """make install prints the PYTHONPATH that python3 needs, and nothing if it is set already. In PREFIX, ~ is the
+    user's folder.
     """
     done = copy.run("make", "-s", "install", "PREFIX=~/a place")
     assert (done.returncode, done.stderr) == (0, ""), done
@@ -371,7 +376,8 @@ def nobody_in(group):
 @pytest.mark.parametrize("place", ["copy", "installed"])
 @pytest.mark.parametrize("end", ENDS)
 def test_end_of_a_server(launchers, place, end):
-    """A server that ends leaves no process. Except after SIGQUIT it leaves the record of its session's `open` and `close`."""
+    """A server that ends leaves no process. Except after SIGQUIT it leaves the record of its session's `open` and
+    `close`."""
     words, sessions, ends, wanted = ENDS[end]
     words = ["--sessions", str(sessions), *words, "can0"]
     with serving(*words, launcher=launchers[place], stdin=subprocess.PIPE) as server:

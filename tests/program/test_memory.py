@@ -1,12 +1,12 @@
 """Tests canbusd when it is refused memory, at one place after another.
 
-refuse_memory.c, compiled with cc and preloaded, refuses the n-th request for memory or start of a thread, for each n: either only
-this request, or this one and all later ones. A bench must end with `no memory` after whole lines of its output, or report it to a
-session. In the second case its output and its record are those of an input without the refused command. An audit gives its usual
-reply or says `no memory`. If crates/can_memory_tests is built, it makes each call of the libraries: a refused call must change
-nothing, and return the usual result when it is repeated. A server that is refused memory fails only one session: other sessions get
-their frames, and the record that it writes at its end is legal. Finally, the program runs with more and more memory, limited by
-RLIMIT_AS.
+refuse_memory.c, compiled with cc and preloaded, refuses the n-th request for memory or start of a thread, for each n:
+either only this request, or this one and all later ones. A bench must end with `no memory` after whole lines of its
+output, or report it to a session. In the second case its output and its record are those of an input without the
+refused command. An audit gives its usual reply or says `no memory`. If crates/can_memory_tests is built, it makes each
+call of the libraries: a refused call must change nothing, and return the usual result when it is repeated. A server
+that is refused memory fails only one session: other sessions get their frames, and the record that it writes at its end
+is legal. Finally, the program runs with more and more memory, limited by RLIMIT_AS.
 """
 
 import contextlib
@@ -169,8 +169,8 @@ class Bench:
         assert done.returncode == 1, f"at {first}: {did}"
         is_reported = REFUSED.fullmatch(done.stderr) or done.stderr == self.ample[3].splitlines(True)[0]
         assert is_reported, f"at {first}: {done.stderr}"
-        # If all later requests are refused too, the output may differ after the first refused command, because later commands
-        # depend on it.
+        # If all later requests are refused too, the output may differ after the first refused command, because later
+        # commands depend on it.
         output = done.stdout.split(SAYS_NO_MEMORY)[0] if last == FOREVER else done.stdout
         assert self.ample[0].startswith(output), f"at {first}: {done.stdout}"
         assert done.stdout == "" or done.stdout.endswith("\n"), f"a line is cut at {first}: {done.stdout}"
@@ -199,8 +199,8 @@ def summed(runs):
     return ", ".join(f"{count} {how}" for how, count in sorted(sums.items()))
 
 
-# Each command that takes memory, and between them commands that show whether it was carried out. There are also a long message and
-# an unknown name.
+# Each command that takes memory, and between them commands that show whether it was carried out. There are also a long
+# message and an unknown name.
 COMMANDS = (
     """session 1
 session 2
@@ -239,7 +239,8 @@ def example(path):
 
 @pytest.mark.slow
 def test_a_bench_without_memory(refusing):
-    """A bench that is refused memory reports it correctly, for each example and for an input with each command that takes memory.
+    """A bench that is refused memory reports it correctly, for each example and for an input with each command that
+    takes memory.
     """
     inputs = [example(path) for path in sorted(glob.glob(os.path.join(ROOT, "examples", "*.bench")))]
     inputs += [(["can0,can1"], COMMANDS), (["--report", "--ack", "peers", "--limit", "12", "can0,can1"], COMMANDS)]
@@ -249,8 +250,8 @@ def test_a_bench_without_memory(refusing):
 
 @pytest.mark.slow
 def test_faults_without_memory(refusing):
-    """For wrong lines, scripts, names and words a program without memory reports `no memory` or at least the first line of the
-    usual report."""
+    """For wrong lines, scripts, names and words a program without memory reports `no memory` or at least the first line
+    of the usual report."""
     folder = refusing.folder
     scripts = {"line": "0 good\nx\n", "name": "5 local crc can2\n", "twice": "5 good\n5 good\n"}
     for name, text in scripts.items():
@@ -301,8 +302,8 @@ def test_faults_without_memory(refusing):
     ],
 )
 def test_an_audit_without_memory(refusing, old, new):
-    """An audit that is refused memory says `no memory` or at least the first line of its usual report, for legal and for damaged
-    records."""
+    """An audit that is refused memory says `no memory` or at least the first line of its usual report, for legal and
+    for damaged records."""
     bench = Bench(refusing, ["can0,can1"], COMMANDS)
     legal = bench.ample[1]
     record = re.sub(old, new, legal, count=1)
@@ -388,8 +389,8 @@ SAYS = [
 
 
 def converse(server, refusing):
-    """Sends these messages, and repeats with memory each message that is answered by `no memory`. Returns what happened to the
-    session."""
+    """Sends these messages, and repeats with memory each message that is answered by `no memory`. Returns what happened
+    to the session."""
     with contextlib.closing(Plain(server)) as client:
         try:
             greeting = client.text()
@@ -494,8 +495,8 @@ def test_deliveries_without_memory(refusing):
 
 
 def why_not(fault, others=()):
-    """Returns the reason why a server does not listen, and checks the form of its report. `others` are further reasons that are
-    accepted."""
+    """Returns the reason why a server does not listen, and checks the form of its report. `others` are further reasons
+    that are accepted."""
     reported = re.fullmatch(rf"canbusd: ({'|'.join(['no memory', 'cannot listen', *others])})(\n  [ -~]*)*", str(fault))
     assert reported, f"{fault}"
     return reported[1]
@@ -510,8 +511,9 @@ def greets(server):
 
 
 def refused_at_each_place(tried):
-    """Refuses memory at one request, and from that request on, until no try makes that many requests; prints how often each outcome
-    occurred. `tried` gets the first and the last refused request. It returns its outcome, and whether it made fewer requests."""
+    """Refuses memory at one request, and from that request on, until no try makes that many requests; prints how often
+    each outcome occurred. `tried` gets the first and the last refused request. It returns its outcome, and whether it
+    made fewer requests."""
     outcomes = {}
     for place in places():
         for last in (FOREVER, place):
@@ -523,8 +525,8 @@ def refused_at_each_place(tried):
 
 
 def start(refusing, place, last, ended, *words, reasons=()):
-    """Starts a server that is refused memory. Returns the reason why it does not listen, or the result of `ended`. Returns also
-    whether the start made fewer than `place` requests."""
+    """Starts a server that is refused memory. Returns the reason why it does not listen, or the result of `ended`.
+    Returns also whether the start made fewer than `place` requests."""
     refusing.refuse(place, last)
     try:
         with refused_server(refusing, *words) as server:
@@ -582,7 +584,8 @@ def files_at_the_end(server, status, written):
 
 @needs_live
 def test_a_start_of_a_long_run_without_memory(refusing):
-    """A server that writes its record while it runs, and is refused memory at its start, reports this and ends, or serves."""
+    """A server that writes its record while it runs, and is refused memory at its start, reports this and ends, or
+    serves."""
 
     def ended(server, how):
         status, written = server.finish()
@@ -613,7 +616,8 @@ def test_a_long_run_without_memory(refusing, flush):
 
 
 def live_files(server, status, written):
-    """Checks the files that a server wrote while it ran; returns how many records are complete, and the server's first report."""
+    """Checks the files that a server wrote while it ran; returns how many records are complete, and the server's first
+    report."""
     entries = dict(re.findall(r"^bus (\w+) entries (\d+)$", written, re.M))
     whole = 0
     for name in ("can0", "can2"):
@@ -656,8 +660,8 @@ def least(words):
 
 
 def test_a_bench_within_ever_more_memory(refusing):
-    """A bench with a limit on its memory (RLIMIT_AS) reports `no memory` or works as usual. The limit increases from what
-    `--version` needs."""
+    """A bench with a limit on its memory (RLIMIT_AS) reports `no memory` or works as usual. The limit increases from
+    what `--version` needs."""
     bench, outcomes = Bench(refusing, ["--limit", "200000", "can0,can1"], COMMANDS), {}
     for most in amounts(least(["--version"])):
         how = bench.try_at(1, 0, most)
@@ -668,7 +672,8 @@ def test_a_bench_within_ever_more_memory(refusing):
 
 
 def test_a_server_within_ever_more_memory():
-    """A server with an increasing limit on its memory (RLIMIT_AS) serves all or some of ten sessions, or reports `no memory`."""
+    """A server with an increasing limit on its memory (RLIMIT_AS) serves all or some of ten sessions, or reports `no
+    memory`."""
     outcomes = {}
     for most in amounts(least(["--version"])):
         try:

@@ -1,7 +1,8 @@
 """Tests the exact output of `canbusd audit --events` for records whose events follow from the rules.
 
-There are tests of each kind of part, of records that are cut off, of wrong entries and lines, of several files, of a record that is
-read through a pipe while it grows, and of a writer that fails. test_memory.py refuses memory to this command.
+There are tests of each kind of part, of records that are cut off, of wrong entries and lines, of several files, of a
+record that is read through a pipe while it grows, and of a writer that fails. test_memory.py refuses memory to this
+command.
 """
 
 import os
@@ -12,8 +13,8 @@ import pytest
 from commands import run_line
 from serving import WAIT, program
 
-# Two interfaces that report faults. Sockets 0 and 1 ask for error message frames. Socket 0 has plenty of room, and socket 1, at
-# interface 1, has room for one item. Socket 2, also at interface 1, asks for no error message frames.
+# Two interfaces that report faults. Sockets 0 and 1 ask for error message frames. Socket 0 has plenty of room, and
+# socket 1, at interface 1, has room for one item. Socket 2, also at interface 1, asks for no error message frames.
 RECORD = """canbus record 1
 bus 2 always 0003 10 100
 open 0 256 = socket 0
@@ -28,8 +29,8 @@ receive 2 = data 0 0 123#01FF 0.000002
 attempt 0.000003 good = idle
 end 10
 """
-# The first attempt raises the transmitter's count to 8 and the receiver's count to 1; the good attempt lowers each by 1. Its error
-# message frame takes the only place in socket 1.
+# The first attempt raises the transmitter's count to 8 and the receiver's count to 1; the good attempt lowers each by
+# 1. Its error message frame takes the only place in socket 1.
 FAULT = "; counts 0 8 0; counts 1 0 1; put 0:20000088#0000810A00000000 1:20000088#0000040000000000"
 DONE = "; counts 0 7 0; counts 1 0 0; put 2; dropped 1:1"
 EVENTS = (
@@ -37,15 +38,16 @@ EVENTS = (
     .replace("destroyed 0000 0000\n", f"destroyed 0000 0000{FAULT}\n")
     .replace("done 0002 0000\n", f"done 0002 0000{DONE}\n")
 )
-# The same events at 500,000 bit/s. Up to its last data bit, 123#01FF has 35 bits and 3 stuff bits. The bit error is followed by an
-# error flag of 6 bits, 6 bits of the other interface's flag, a delimiter of 8 bits and an intermission of 3 bits. A complete frame
-# also has 15 bits of CRC, 2 stuff bits and 10 bits up to the end of frame, 65 bits in all, and an intermission after it.
+# The same events at 500,000 bit/s. Up to its last data bit, 123#01FF has 35 bits and 3 stuff bits. The bit error is
+# followed by an error flag of 6 bits, 6 bits of the other interface's flag, a delimiter of 8 bits and an intermission
+# of 3 bits. A complete frame also has 15 bits of CRC, 2 stuff bits and 10 bits up to the end of frame, 65 bits in all,
+# and an intermission after it.
 TIMED = EVENTS.replace(f"{FAULT}\n", f"{FAULT}; wire 130000 122000 65 0\n").replace(
     f"{DONE}\n", f"{DONE}; wire 130000 136000 65 0\n"
 )
-# An FD frame with 8 bytes 00 and the bit rate switch. At the nominal bit rate it has 17 bits up to its BRS bit and 10 bits after
-# its CRC. At the other bit rate it has ESI, 4 bits of length, 64 bits of data, 13 stuff bits, and 27 bits of stuff count, CRC and
-# fixed stuff bits.
+# An FD frame with 8 bytes 00 and the bit rate switch. At the nominal bit rate it has 17 bits up to its BRS bit and 10
+# bits after its CRC. At the other bit rate it has ESI, 4 bits of length, 64 bits of data, 13 stuff bits, and 27 bits of
+# stuff count, CRC and fixed stuff bits.
 SWITCHED = """canbus record 5
 bus 1 always 0000 10 100 0
 open 0 256 = socket 0
@@ -54,8 +56,8 @@ send 0 124##10000000000000000 = number 0
 attempt 0.000001 good = tried 0 0 124##10000000000000000 done 0000 0000
 end 4
 """
-# After 31 destroyed attempts a transmitter's count is 248. The next attempt takes its interface to bus off, and the waiting frames
-# are lost. The call `restart` ends bus off.
+# After 31 destroyed attempts a transmitter's count is 248. The next attempt takes its interface to bus off, and the
+# waiting frames are lost. The call `restart` ends bus off.
 FAULTS = "".join(
     f"attempt 0.0000{number:02} global-bit = tried 0 0 123# destroyed 0000 0000\n" for number in range(1, 32)
 )
@@ -162,7 +164,8 @@ def test_before_a_fault(old, new, lines, tmp_path):
 
 
 def test_a_wrong_entry_before_a_wrong_line(tmp_path):
-    """If a malformed line follows a wrong entry, the line is reported, but only the events before the wrong entry are written."""
+    """If a malformed line follows a wrong entry, the line is reported, but only the events before the wrong entry are
+    written."""
     record = RECORD.replace("done 0002 0000", "done 0000 0000").replace("receive 2 = data", "receive 2 = date")
     status, written, errors = audited(record, tmp_path)
     assert (status, written) == (1, front(EVENTS, 9)) and errors.startswith("canbusd: line 11: bad line\n")

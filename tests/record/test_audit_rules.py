@@ -1,7 +1,8 @@
 """Tests which rule gave each attempt its verdict, by `canbusd audit --events --faults`.
 
-There are tests of a run by hand, of each property that decides the rule, of the report on each kind of wrong faults file, and of
-random runs and files, which are compared with rule_model.py. test_memory.py refuses memory to this command.
+There are tests of a run by hand, of each property that decides the rule, of the report on each kind of wrong faults
+file, and of random runs and files, which are compared with rule_model.py. test_memory.py refuses memory to this
+command.
 """
 
 import subprocess
@@ -17,8 +18,8 @@ from serving import WAIT, program
 from timed_benches import random_rates, rate_options
 
 NAMES = "ecu,tester"
-# Rules 1 and 2 apply from the start, although a line of the run is between them. Rule 3 is given before attempt 3. Rules 2 and 3
-# are ended before attempt 4. Rule 4 is given before attempt 5, the first attempt after two idle ones.
+# Rules 1 and 2 apply from the start, although a line of the run is between them. Rule 3 is given before attempt 3.
+# Rules 2 and 3 are ended before attempt 4. Rule 4 is given before attempt 5, the first attempt after two idle ones.
 FAULTS = """# of an afternoon
 next 1 from ecu lastbit
 1 global bit
@@ -35,9 +36,9 @@ send 0 123# = number 0
 send 0 123# = number 1
 send 0 123# = number 2
 """
-# Each attempt with its parts. Rule 2 skips attempt 2, because rule 1 decided attempt 0 and the numbered line decided attempt 1.
-# Attempt 3 shows that rule 2 is asked before rule 3. In attempt 6 rule 4 says good but the record has another verdict, so the line
-# names no rule; rule 4 is used up all the same.
+# Each attempt with its parts. Rule 2 skips attempt 2, because rule 1 decided attempt 0 and the numbered line decided
+# attempt 1. Attempt 3 shows that rule 2 is asked before rule 3. In attempt 6 rule 4 says good but the record has
+# another verdict, so the line names no rule; rule 4 is used up all the same.
 ATTEMPTS = """attempt 0.000000 lastbit = tried 0 0 123# lastbit 0002 0000; counts 0 8 0; rule 1
 attempt 0.000001 global-bit = tried 0 0 123# destroyed 0000 0000; counts 0 16 0; counts 1 0 1
 attempt 0.000002 good = tried 0 0 123# done 0002 0000; counts 0 15 0; counts 1 0 0
@@ -51,7 +52,8 @@ attempt 0.000007 good = tried 0 3 124# done 0002 0000; counts 0 12 0; rule 4
 attempt 0.000008 lastbit = tried 0 4 124# lastbit 0002 0000; counts 0 20 0
 attempt 0.000009 good = tried 0 4 124# done 0002 0000; counts 0 19 0
 """
-# Where the bus accepted the rules: the script's two rules after the line of the bus, and the other rules before their attempts.
+# Where the bus accepted the rules: the script's two rules after the line of the bus, and the other rules before their
+# attempts.
 TOLD = {
     "open 0 ": "rule 1 next 1 from ecu lastbit\nrule 2 always id 123 skip 1 good\n",
     "attempt 0.000003 ": "rule 3 next 1 global form\n",
@@ -130,7 +132,8 @@ def test_words_of_a_rule(tmp_path, rule, words):
         ("always id 124 good\nalways good", ["2", "2", "2", "1", "1"]),
         # The first rule skips attempts 0 to 2. The second rule decides attempts 1 and 2, and skips only attempt 0.
         ("always skip 3 good\nalways skip 1 good", ["2", "1", "1", "1", "1"]),
-        # A numbered line decides its attempt before any rule, and rules that are given before the same attempt keep their order.
+        # A numbered line decides its attempt before any rule, and rules that are given before the same attempt keep
+        # their order.
         ("3 good\nalways good\nat 4 next 1 good", ["1", "", "1", "1", "1"]),
         ("at 2 always id 124 good\nat 2 next 2 good\nalways from tester good", ["3", "3", "", "2", "2"]),
     ],
@@ -230,8 +233,8 @@ def test_names_by_their_places(tmp_path):
 
 @pytest.mark.parametrize("names", ["ecu", "ecu,tester,gateway", ",".join(f"can{i}" for i in range(16))])
 def test_names_of_another_bus(tmp_path, names):
-    """A wrong number of names is refused before any output, even if the record has a fault later. A fault in the first two lines is
-    reported instead."""
+    """A wrong number of names is refused before any output, even if the record has a fault later. A fault in the first
+    two lines is reported instead."""
     count = len(names.split(","))
     wanted = f"canbusd: names of another bus\n  names in --faults: {count}, interfaces of run.rec: 2\n"
     for record in (RECORD, FRONT, FRONT + "x\n", RECORD.replace("idle", "tried"), RECORD + "x"):
@@ -315,8 +318,8 @@ def test_random_runs(request, cases, tmp_path):
 
 
 def test_faults_of_another_run(request, rng, cases, tmp_path):
-    """If the faults are those of another run, rules that do not fit are not named, and the other rules continue as usual, also with
-    time on the wire."""
+    """If the faults are those of another run, rules that do not fit are not named, and the other rules continue as
+    usual, also with time on the wire."""
     maker, found = RuleMaker(request.config.getoption("seed")), 0
     for names, data, faults in runs(maker, cases // 20, tmp_path):
         other = faults.split("\n")

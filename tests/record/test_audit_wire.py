@@ -1,7 +1,9 @@
-"""Tests the time of attempts on the wire and the numbers of bits of their frames, by `canbusd audit --events --bitrate`.
+"""Tests the time of attempts on the wire and the numbers of bits of their frames, by `canbusd audit --events
+--bitrate`.
 
-There are tests of frames and attempts whose lengths follow from their fields, of each kind of frame and attempt, compared with the
-models wire_model.py and wire_times.py, which build frames bit by bit, and of refused words. test_record_events.py has random runs.
+There are tests of frames and attempts whose lengths follow from their fields, of each kind of frame and attempt,
+compared with the models wire_model.py and wire_times.py, which build frames bit by bit, and of refused words.
+test_record_events.py has random runs.
 """
 
 import os
@@ -20,8 +22,8 @@ from wire_times import Rates, ending_of
 
 # At these bit rates a nominal bit takes 1,000 nanoseconds, and a fast bit 125.
 FAST = Rates(1_000_000, 8_000_000)
-# Attempts to send a frame to another interface: the verdict, the outcome and the accepting interfaces. Interface 2 is missing, so
-# it can't see a fault.
+# Attempts to send a frame to another interface: the verdict, the outcome and the accepting interfaces. Interface 2 is
+# missing, so it can't see a fault.
 ATTEMPTS = [
     ("lastbit", "lastbit", "0002"),
     ("global-bit", "destroyed", "0000"),
@@ -49,7 +51,8 @@ def record_of(frame, attempts):
 
 
 def wires(record, rates):
-    """Returns the wire parts of a record's events: the nanoseconds of the frame and of the attempt, and the bits at each rate."""
+    """Returns the wire parts of a record's events: the nanoseconds of the frame and of the attempt, and the bits at
+    each rate."""
     words = [program(), "audit", "--events", *rate_options(rates), "/dev/stdin"]
     done = subprocess.run(words, input=record, capture_output=True, text=True, timeout=WAIT, check=False)
     assert (done.returncode, done.stderr) == (0, ""), record
@@ -75,25 +78,27 @@ def test_known_lengths_of_classic_frames(text, bits):
         ("555##1" + 20 * "55", 27, 37 + 160),
         ("15555555##1" + 20 * "55", 46, 37 + 160),
         ("123##1" + 64 * "00", 27, 651),
-        # Without a switch the BRS bit is dominant. Before a length of 3 it makes five zeros in a row, so a stuff bit follows.
+        # Without a switch the BRS bit is dominant. Before a length of 3 it makes five zeros in a row, so a stuff bit
+        # follows.
         ("555##0" + 20 * "55", 27 + 37 + 160, 0),
         ("555##0" + 3 * "55", 27 + 32 + 24 + 1, 0),
     ],
 )
 def test_known_lengths_of_fd_frames(text, nominal, fast):
-    """FD frames with only fixed stuff bits have the lengths that counting their fields gives. So does a frame with the stuff bits
-    of 64 zero bytes."""
+    """FD frames with only fixed stuff bits have the lengths that counting their fields gives. So does a frame with the
+    stuff bits of 64 zero bytes."""
     assert bits_of(text) == (nominal, fast)
 
 
 def test_known_lengths_of_attempts():
-    """Attempts have 52 bits up to the end of the data, 67 up to the end of the CRC, 77 in a frame, and 3 in the intermission."""
+    """Attempts have 52 bits up to the end of the data, 67 up to the end of the CRC, 77 in a frame, and 3 in the
+    intermission."""
     frame, rates = "123#11223344", Rates(500_000)
     lengths = [77 + 18, 52 + 23, 52 + 23, 67 + 26, 67 + 26, 67 + 26, 80, 80]
     assert wires(record_of(frame, ATTEMPTS), rates) == [(154_000, 2_000 * length, 77, 0) for length in lengths]
     assert wires(record_of(frame, NOBODY), rates) == [(154_000, 2_000 * (67 + 19), 77, 0)]
-    # An FD frame has 17 nominal and 5 fast bits up to the end of its data, and 17 nominal and 32 fast bits up to the end of its
-    # CRC.
+    # An FD frame has 17 nominal and 5 fast bits up to the end of its data, and 17 nominal and 32 fast bits up to the
+    # end of its CRC.
     frame, length = "123##1", 27_000 + 32 * 125
     assert wires(record_of(frame, ATTEMPTS), FAST)[1] == (length, 40_000 + 5 * 125, 27, 32)
     assert wires(record_of(frame, NOBODY), FAST) == [(length, 36_000 + 32 * 125, 27, 32)]
@@ -106,7 +111,8 @@ def test_known_lengths_of_attempts():
         ("000#", Rates(500_000), 100_000, 106_000),
         # The frame has 50 bits and the attempt 53, each of 3,333 and a third nanoseconds.
         ("000#", Rates(300_000), 166_667, 176_667),
-        # The frame has 27 bits of 2,000 nanoseconds and 32 bits of 333 and a third. A switch to the nominal rate changes nothing.
+        # The frame has 27 bits of 2,000 nanoseconds and 32 bits of 333 and a third. A switch to the nominal rate
+        # changes nothing.
         ("555##1", Rates(500_000, 3_000_000), 64_667, 70_667),
         ("555##1", Rates(500_000), 118_000, 124_000),
         ("123##1" + 64 * "00", FAST, 108_375, 111_375),
@@ -146,10 +152,12 @@ def test_each_kind_of_frame_and_attempt(rng, cases):
 
 
 def test_where_the_part_is(tmp_path):
-    """The time on the wire is the last part of each attempt that tried a frame. All other lines are the same as without bit rates.
+    """The time on the wire is the last part of each attempt that tried a frame. All other lines are the same as without
+    bit rates.
 
-    123#01FF has 35 bits and 3 stuff bits up to the end of its data, 15 bits of CRC with 2 stuff bits, and 10 bits after that. Each
-    bit takes 2,000 nanoseconds. The fault of the first attempt comes at the end of the data, and 23 bits follow.
+    123#01FF has 35 bits and 3 stuff bits up to the end of its data, 15 bits of CRC with 2 stuff bits, and 10 bits after
+    that. Each bit takes 2,000 nanoseconds. The fault of the first attempt comes at the end of the data, and 23 bits
+    follow.
     """
     (tmp_path / "run.rec").write_text(RECORD)
     failed, done = "destroyed 0000 0000; counts", "; dropped 1:1"

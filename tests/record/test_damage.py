@@ -1,11 +1,12 @@
 """Tests what `canbusd audit` reports for damaged records, compared with the independent model of record_events.py.
 
-Each byte of the record in docs/RECORD.md is changed, to 30 other bytes or, with --all-bytes, to all 255. The record is also cut at
-each byte, and audited with and without `--cut`. The same is done for a record with an automatic restart, which is version 2, one
-with FD frames, which is version 3, and one that was written during its run, which is version 4. Records of the examples and of
-random runs, which have every kind of line, have bytes changed, and lines left out, doubled, exchanged, moved, and given other words
-and replies. The program and the model must report the same first wrong line or entry, and `ok` for the same records. With --beside
-another program, which audits like canbusd, must report the same.
+Each byte of the record in docs/RECORD.md is changed, to 30 other bytes or, with --all-bytes, to all 255. The record is
+also cut at each byte, and audited with and without `--cut`. The same is done for a record with an automatic restart,
+which is version 2, one with FD frames, which is version 3, and one that was written during its run, which is version 4.
+Records of the examples and of random runs, which have every kind of line, have bytes changed, and lines left out,
+doubled, exchanged, moved, and given other words and replies. The program and the model must report the same first wrong
+line or entry, and `ok` for the same records. With --beside another program, which audits like canbusd, must report the
+same.
 """
 
 import glob
@@ -37,8 +38,8 @@ class Tried:
         self.program, *self.beside = programs
         self.changes_all, self.rng, self.folder = changes_all, rng, folder
         self.said = {}
-        # The running program for each set of options, which repeats its audit. Without a compiler the program is started for each
-        # audit.
+        # The running program for each set of options, which repeats its audit. Without a compiler the program is
+        # started for each audit.
         self.library, self.started = library, {}
 
     def audited(self, program, data, *options):
@@ -66,7 +67,8 @@ class Tried:
         self.count(wanted)
 
     def cut(self, data):
-        """Checks the verdicts on a record that may be cut off, without and with `--cut`, and the note on its partial last line."""
+        """Checks the verdicts on a record that may be cut off, without and with `--cut`, and the note on its partial
+        last line."""
         self.one(data)
         wanted = audit(data, cut=True)
         status, output, errors = self.audited(self.program, data, "--cut")
@@ -132,7 +134,8 @@ def restarted():
 
 
 def with_fd():
-    """Returns a record of FD frames and a classic frame, with sockets that ask for FD frames and a socket that does not."""
+    """Returns a record of FD frames and a classic frame, with sockets that ask for FD frames and a socket that does
+    not."""
     lines = [
         "open 0 256 = socket 0", "open 1 1 = socket 1", "open 1 256 = socket 2", "send 0 123##0 = fd-off",
         "option 0 fd 1 = ok", "option 1 fd 1 = ok", "send 0 123##00102030405060708090A0B0C = number 0",
@@ -297,8 +300,8 @@ def test_bytes_of_a_live_record_with_fd_frames(tried):
 
 
 def change_bytes(tried, data, skip_from=0, skip_to=0, part=None):
-    """Changes and removes each byte of a record, cuts the record there, and appends text. Leaves out the bytes from `skip_from` to
-    `skip_to`, and the bytes of other parts."""
+    """Changes and removes each byte of a record, cuts the record there, and appends text. Leaves out the bytes from
+    `skip_from` to `skip_to`, and the bytes of other parts."""
     tried.one(data)
     for place, byte in enumerate(data):
         if skip_from <= place < skip_to or part not in (None, place % PARTS):
@@ -461,8 +464,8 @@ def test_what_cut_would_do_is_said(tried):
 
 @in_parts
 def test_lines_of_other_records(tried, part):
-    """The verdicts agree if lines of the examples' records and of random runs are left out, doubled, exchanged, or given other
-    replies and words."""
+    """The verdicts agree if lines of the examples' records and of random runs are left out, doubled, exchanged, or
+    given other replies and words."""
     for data in [*itertools.islice(examples(tried), part, None, PARTS), random_run(tried)]:
         assert audit(data).startswith("ok "), f"the replay: {audit(data)}"
         tried.one(data)

@@ -143,7 +143,8 @@ NOT_TAKEN = [
 
 
 def heard(bench, folder):
-    """Runs a bench with this input, on the bus that its first line names; returns the frames that the listener receives."""
+    """Runs a bench with this input, on the bus that its first line names; returns the frames that the listener
+    receives."""
     bus = re.match(r"# canbusd bench (\S+) < THIS FILE\n", bench)[1]
     record = os.path.join(folder, "log.rec")
     done = subprocess.run(
@@ -155,8 +156,8 @@ def heard(bench, folder):
 
 
 def test_logs_of_candump(tmp_path):
-    """candump2bench takes data, remote and 29-bit frames of several interfaces with their times, and reports each line that it
-    can't take."""
+    """candump2bench takes data, remote and 29-bit frames of several interfaces with their times, and reports each line
+    that it can't take."""
     path = os.path.join(tmp_path, "run.log")
     with open(path, "w", encoding="ascii") as file:
         file.write(LOG)
@@ -205,8 +206,8 @@ def log_with_destroyed_frames(folder):
 
 @pytest.mark.parametrize("reads", [by_python_can, by_log2asc])
 def test_readers(reads, tmp_path):
-    """python-can and can-utils read each log of a bench: one with every kind of line, one of a played log, and one with destroyed
-    frames."""
+    """python-can and can-utils read each log of a bench: one with every kind of line, one of a played log, and one with
+    destroyed frames."""
     path = tmp_path / "read.log"
     for text in (EVERY_KIND, LOGGED, log_with_destroyed_frames(tmp_path)):
         path.write_text(text)

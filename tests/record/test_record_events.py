@@ -1,8 +1,8 @@
 """Tests that `canbusd audit --events` writes the events of an independent model, for random runs, whole and cut off.
 
-The model is record_events.py. If a record is not legal, the program writes the lines before the fault. With bit rates the lines
-have times on the wire, which wire_model.py and wire_times.py compute. The tests also check that the Python package reads from these
-lines what the model has.
+The model is record_events.py. If a record is not legal, the program writes the lines before the fault. With bit rates
+the lines have times on the wire, which wire_model.py and wire_times.py compute. The tests also check that the Python
+package reads from these lines what the model has.
 """
 
 import subprocess
@@ -17,7 +17,8 @@ from serving import WAIT, program
 from test_audit_events import EVENTS, RECORD
 from timed_benches import random_rates, rate_options
 
-# Interface 0 goes bus off at its 32nd destroyed attempt and loses its waiting frames. It restarts in the second attempt after that.
+# Interface 0 goes bus off at its 32nd destroyed attempt and loses its waiting frames. It restarts in the second attempt
+# after that.
 BUS_OFF = [
     "canbus record 2",
     "bus 2 always 0000 10 100 2",
@@ -119,7 +120,8 @@ def test_the_model_of_downs():
 
 
 def test_events_of_downs():
-    """The program writes the lines of the model for the entries of DOWNS, and its reports on wrong records agree with the model."""
+    """The program writes the lines of the model for the entries of DOWNS, and its reports on wrong records agree with
+    the model."""
     assert said(with_downs(), "--events") == (events_of_downs(), 0, "")
     for data in (with_downs().replace(b"record 6", b"record 5"), with_downs().replace(b"interface-down", b"bus-off")):
         assert said(data)[2].splitlines()[0] == record_events.audit(data)
@@ -156,7 +158,8 @@ def test_events_of_records_that_are_cut_off(request, rng, cases, tmp_path):
 
 
 def test_events_of_wrong_records(request, rng, cases, tmp_path):
-    """For a wrong record the program writes the lines before the wrong one, and reports the fault that it reports without --events.
+    """For a wrong record the program writes the lines before the wrong one, and reports the fault that it reports
+    without --events.
     """
     for data in records(request.config.getoption("seed"), cases // 10, tmp_path):
         lines = data.splitlines(True)
@@ -180,7 +183,8 @@ def step_of(step):
 
 
 def bus_of(run, text=lambda frame: frame):
-    """Returns the state of a run at its end: interfaces with their waiting and lost frames, sockets, refused sends, and counts."""
+    """Returns the state of a run at its end: interfaces with their waiting and lost frames, sockets, refused sends, and
+    counts."""
     ifaces = [
         (
             [*map(text, one.waiting)],
@@ -202,7 +206,8 @@ def bus_of(run, text=lambda frame: frame):
 
 
 def queued_in(parts):
-    """Yields the items in the `put` parts of entries: the number of the socket, and the error message frame if there is one."""
+    """Yields the items in the `put` parts of entries: the number of the socket, and the error message frame if there is
+    one."""
     for words in (part.split(" ")[1:] for one in parts.values() for part in one if part.startswith("put ")):
         yield from ((int(number), error) for number, _, error in (word.partition(":") for word in words))
 
@@ -232,7 +237,8 @@ def test_the_times_that_the_package_reads(request, rng, cases, tmp_path):
 
 
 def test_what_the_package_reads(request, cases, tmp_path):
-    """The package reads the steps, items, lost frames and final state of the model, for random runs and for the entries of DOWNS.
+    """The package reads the steps, items, lost frames and final state of the model, for random runs and for the entries
+    of DOWNS.
     """
     for data in [with_downs(), *records(request.config.getoption("seed"), cases // 4, tmp_path)]:
         run, model = Replay(), record_events.Replay(parse_text(data))

@@ -109,8 +109,8 @@ def replies_like(line):
 
 
 def test_faults_of_records(tmp_path):
-    """`canbusd report` fails cleanly if a record is missing, empty, binary, cut or damaged. It also does if a reader goes away or a
-    device is full."""
+    """`canbusd report` fails cleanly if a record is missing, empty, binary, cut or damaged. It also does if a reader
+    goes away or a device is full."""
     record, _ = example("bus_off_attack", tmp_path)
     with open(record, "rb") as file:
         text = file.read()
@@ -150,7 +150,8 @@ def test_faults_of_records(tmp_path):
 
 
 def test_names_of_interfaces(tmp_path):
-    """Names of interfaces come from the arguments or from the log next to the record, but never from the log of another run."""
+    """Names of interfaces come from the arguments or from the log next to the record, but never from the log of another
+    run."""
     record, _ = example("lost_arbitration", tmp_path)
 
     def winners():

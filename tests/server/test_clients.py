@@ -1,4 +1,5 @@
-"""Tests `canbusd serve` with clients that were not written for it: python-can, its player and logger, and the readers of can-utils.
+"""Tests `canbusd serve` with clients that were not written for it: python-can, its player and logger, and the readers
+of can-utils.
 """
 
 import contextlib
@@ -192,8 +193,8 @@ def test_connects_to_a_busy_bus():
 
 
 def first_frame(server, sender, *pieces):
-    """Sends these pieces, of which the last makes the session raw. Then a frame is sent; returns the seconds from the last piece
-    until the frame arrives."""
+    """Sends these pieces, of which the last makes the session raw. Then a frame is sent; returns the seconds from the
+    last piece until the frame arrives."""
     one = Plain(server)
     texts = [one.text()]
     for piece in pieces:
@@ -209,8 +210,8 @@ def first_frame(server, sender, *pieces):
 
 
 def test_first_frame_of_a_session():
-    """The first frame comes at once to a client that sends `open` and `rawmode` together, and 20 ms later to a client that waits
-    for a reply between them."""
+    """The first frame comes at once to a client that sends `open` and `rawmode` together, and 20 ms later to a client
+    that waits for a reply between them."""
     with serving("--pace", "0", "can0,can1") as server:
         sender = plain(server, "can0")
         assert min(first_frame(server, sender, "< open can1 >< rawmode >") for _ in range(20)) < 0.015
@@ -298,8 +299,8 @@ def logger_ends(server, logger):
 
 
 def compare_logger(path, frames, warnings):
-    """Compares the logger's output with the frames. If a read of the logger ends inside a frame, the logger loses that frame and
-    logs this."""
+    """Compares the logger's output with the frames. If a read of the logger ends inside a frame, the logger loses that
+    frame and logs this."""
     got = [(one.arbitration_id, bytes(one.data)) for one in CanutilsLogReader(path)]
     wanted = [(int(text, 16), data) for text, data in frames]
     places = {frame: place for place, frame in enumerate(wanted)}
@@ -310,8 +311,8 @@ def compare_logger(path, frames, warnings):
 
 
 def compare_files(server, frames):
-    """Compares the frames with the server's log, as read by python-can's reader and by those readers of can-utils that need no
-    kernel CAN."""
+    """Compares the frames with the server's log, as read by python-can's reader and by those readers of can-utils that
+    need no kernel CAN."""
     path = server.path("can0.log")
     with open(path, encoding="ascii") as file:
         lines = [line.split() for line in file]

@@ -1,5 +1,5 @@
-"""Tests the folder of a server: only one server uses it, a refused start leaves it unchanged, and links to plain files in it are
-not followed."""
+"""Tests the folder of a server: only one server uses it, a refused start leaves it unchanged, and links to plain files
+in it are not followed."""
 
 import itertools
 import os
@@ -40,7 +40,8 @@ def leave_old(folder, *names):
 
 @pytest.mark.parametrize("first, second", itertools.product(WHEN, WHEN))
 def test_one_server_a_folder(first, second, tmp_path):
-    """A second server is refused at once, even with other buses, and changes nothing. It starts after the first server has ended.
+    """A second server is refused at once, even with other buses, and changes nothing. It starts after the first server
+    has ended.
     """
     leave_old(tmp_path, "can0.log", "can0.rec", "can2.rec.new")
     with serving_alone("--record", first, "can0", out=tmp_path) as server:
@@ -77,7 +78,8 @@ def test_two_starts_at_once(first, second, tmp_path):
 
 @pytest.mark.parametrize("when", WHEN)
 def test_a_start_that_is_refused(when, tmp_path):
-    """If a start is refused because of its second bus, the logs and records of earlier runs stay, including those of a killed run.
+    """If a start is refused because of its second bus, the logs and records of earlier runs stay, including those of a
+    killed run.
     """
     leave_old(tmp_path, "can0.log", "can0.rec", "can0.rec.new", "can0.log.new", "can2.log")
     (tmp_path / "can2.rec.new").mkdir()
@@ -154,8 +156,8 @@ def test_a_link_is_no_lock_file_of_a_folder(tmp_path):
 
 
 def test_the_lock_file_of_a_path(tmp_path):
-    """The lock file of a socket path is readable only for its user. A link in its place is refused, and no file is made at its
-    target."""
+    """The lock file of a socket path is readable only for its user. A link in its place is refused, and no file is made
+    at its target."""
     path, lock = tmp_path / "bus", tmp_path / "bus.lock"
     words = (program(), "serve", "--until-eof", "--listen", str(path), "can0")
     lock.symlink_to(tmp_path / "other")

@@ -201,8 +201,8 @@ def test_nobody_takes_the_answers():
 
 
 def test_slow_readers():
-    """Twenty sessions that do not read 3,000 frames delay no other session. Ten of them are reset, and ten then read their frames
-    in order."""
+    """Twenty sessions that do not read 3,000 frames delay no other session. Ten of them are reset, and ten then read
+    their frames in order."""
     with disturbed("--rxqueue", "100") as (server, pair):
         slow, sender = [plain(server, "can1") for _ in range(20)], plain(server, "can2")
         assert sender.answer("< filter 0 >") == "< ok >", "the sender"
@@ -222,7 +222,8 @@ def test_slow_readers():
 
 
 def test_silent_connections(rng):
-    """The places of 62 silent connections, and the descriptors of 40 refused ones, are free again after they disconnect."""
+    """The places of 62 silent connections, and the descriptors of 40 refused ones, are free again after they
+    disconnect."""
     with disturbed() as (server, pair):
         before = server.held()
         for _ in range(3):
@@ -314,7 +315,8 @@ def visit(server, count):
 
 
 def test_too_few_descriptors():
-    """With more clients than file descriptors for five seconds, the server does not spin. It then accepts the remaining sessions.
+    """With more clients than file descriptors for five seconds, the server does not spin. It then accepts the remaining
+    sessions.
     """
 
     def begin():

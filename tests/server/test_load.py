@@ -64,9 +64,9 @@ def write_fault_script(path, names, attempts, rng):
 class Client:
     """A session that sends frames with its own identifier and receives those of three other sessions.
 
-    `earlier` is the number of broken sessions that had this place before. The server may read the last frames of a broken session
-    after the first frames of the next one, so the order is checked within each session. Half of the sessions ask for the origin of
-    frames, and check the order within an interface too.
+    `earlier` is the number of broken sessions that had this place before. The server may read the last frames of a
+    broken session after the first frames of the next one, so the order is checked within each session. Half of the
+    sessions ask for the origin of frames, and check the order within an interface too.
     """
 
     def __init__(self, server, place, names, earlier=0):
@@ -103,7 +103,8 @@ class Client:
         return self.answers.pop(0)
 
     def take(self, sender, data, side, number):
-        """Counts a frame or an error message, and checks that the frames of each session and of each interface come in order."""
+        """Counts a frame or an error message, and checks that the frames of each session and of each interface come in
+        order."""
         self.items += 1
         if sender:
             is_copy = self.comes_again((sender, data[:4]), int(data[4:], 16))
@@ -130,8 +131,8 @@ class Client:
         return self.read_stats()
 
     def read_stats(self):
-        """Returns the numbers of the next reply to `stats`. Counts the sends that were refused before it, and notes whether bus off
-        was a reason."""
+        """Returns the numbers of the next reply to `stats`. Counts the sends that were refused before it, and notes
+        whether bus off was a reason."""
         self.were_off = False
         while not (answer := self.answer()).startswith(b"stats "):
             assert answer in (b"error no buffers", b"error bus off", b"error not bus off", b"ok"), f"{answer}"
@@ -156,7 +157,8 @@ class Client:
             waiting = self.stats()[5]
 
     def drain(self):
-        """Waits until no frame waits and all frames and error messages have arrived; returns the numbers of `stats` at that time.
+        """Waits until no frame waits and all frames and error messages have arrived; returns the numbers of `stats` at
+        that time.
         """
         until = time.monotonic() + PATIENCE
         while True:
@@ -244,8 +246,9 @@ class BusLoad:
         self.broken.append(break_off(self.server, place, self.names, random.Random(seed), self.is_over))
 
     def go_through(self, breaking):
-        """Leads all sessions through the steps of the test. The staying sessions connect before others come and go. After those
-        have ended, new connections take their places on every bus, so the server has nothing of the old ones left to read.
+        """Leads all sessions through the steps of the test. The staying sessions connect before others come and go.
+        After those have ended, new connections take their places on every bus, so the server has nothing of the old
+        ones left to read.
         """
         self.steps.wait(PATIENCE)
         self.buses.wait(PATIENCE)
@@ -328,8 +331,8 @@ class Counted:
 
 @pytest.mark.parametrize("frames", [40_000, pytest.param(None, marks=pytest.mark.slow, id="--frames")])
 def test_load_with_faults(request, tmp_path, frames):
-    """64 sessions on 4 buses, with faults of every kind and sessions that break off and come back, lose nothing that is not
-    counted."""
+    """64 sessions on 4 buses, with faults of every kind and sessions that break off and come back, lose nothing that is
+    not counted."""
     frames, seed = frames or request.config.getoption("frames"), request.config.getoption("seed")
     buses = []
     for bus in range(BUSES):

@@ -1,11 +1,11 @@
 """Tests servers whose logs and records are written while they run, and servers without a record.
 
-Servers under load are killed at random times (10 servers, or 200 with the slow tests). Their files are audited by `audit --cut` and
-by the independent model of record_events.py, and have at least what clients knew two `--flush` periods before the kill. Disks fill,
-stop, fail or are slow (failing_disk.c, compiled with cc and preloaded), or can't be written. After 20 million entries the memory is
-what it was when both blocks of the bus were full. 100,000 ended sessions leave nothing in memory. A server under a steady load
-(--minutes) ends with a correct record. A record is also compared with that of a server that has the same dialogue and writes its
-record at the end.
+Servers under load are killed at random times (10 servers, or 200 with the slow tests). Their files are audited by
+`audit --cut` and by the independent model of record_events.py, and have at least what clients knew two `--flush`
+periods before the kill. Disks fill, stop, fail or are slow (failing_disk.c, compiled with cc and preloaded), or can't
+be written. After 20 million entries the memory is what it was when both blocks of the bus were full. 100,000 ended
+sessions leave nothing in memory. A server under a steady load (--minutes) ends with a correct record. A record is also
+compared with that of a server that has the same dialogue and writes its record at the end.
 """
 
 import collections
@@ -71,8 +71,8 @@ def test_words_that_are_refused(words, tmp_path):
 
 @pytest.mark.parametrize("record", ["live", "none"])
 def test_a_folder_that_cannot_be_written(record, tmp_path):
-    """A folder that is missing, is a file, accepts no files, or has a folder in place of the log is refused before the server
-    listens."""
+    """A folder that is missing, is a file, accepts no files, or has a folder in place of the log is refused before the
+    server listens."""
     (tmp_path / "file").touch()
     (tmp_path / "can0.log").mkdir()
     for folder in (tmp_path / "none", tmp_path / "file", "/proc", tmp_path):
@@ -102,7 +102,8 @@ def dialogue(server, has_fd):
 
 @pytest.mark.parametrize("has_fd", [False, True])
 def test_the_record_of_the_same_dialogue(has_fd):
-    """Records written live and at the end differ only in their first two lines. Their logs and the texts to clients are the same.
+    """Records written live and at the end differ only in their first two lines. Their logs and the texts to clients are
+    the same.
     """
     runs = {}
     for record in ("end", "live", "none"):
@@ -150,8 +151,8 @@ def test_each_front_of_a_record_that_a_server_wrote(tmp_path):
 
 
 def test_the_files_of_a_run_that_goes_on():
-    """The first lines are there from the start, each later line soon after its call, and the end line and the final name at the
-    end."""
+    """The first lines are there from the start, each later line soon after its call, and the end line and the final
+    name at the end."""
     with serving_alone(*LIVE, "can0,can1", "car0") as server:
         growing = ["can0.log", "can0.rec.new", "car0.log", "car0.rec.new"]
         assert names_in(server.folder) == [".canbusd.lock", *growing]
@@ -228,8 +229,8 @@ def test_what_an_earlier_run_left():
 
 @pytest.mark.parametrize("record", ["end", "live"])
 def test_what_a_start_that_failed_left(record, tmp_path):
-    """A record of a failed start, which has only the first lines, replaces nothing: the record of a killed run stays, and there is
-    no note."""
+    """A record of a failed start, which has only the first lines, replaces nothing: the record of a killed run stays,
+    and there is no note."""
     text = FRONT + "of a run that was killed\n" * 10
     (tmp_path / "can0.rec.cut").write_text(text)
     (tmp_path / "can0.rec.new").write_text(FRONT)
@@ -241,8 +242,8 @@ def test_what_a_start_that_failed_left(record, tmp_path):
 
 @pytest.mark.parametrize("record", ["end", "live", "none"])
 def test_who_sets_aside_what_an_earlier_run_left(record, tmp_path):
-    """A server that writes a record, live or at the end, sets aside the unfinished record of each bus. It does not do so if its
-    address is refused."""
+    """A server that writes a record, live or at the end, sets aside the unfinished record of each bus. It does not do
+    so if its address is refused."""
     texts = {bus: f"of {bus} in a run that was killed\n" * 10 for bus in ("can0", "can1")}
     for bus, text in texts.items():
         (tmp_path / f"{bus}.rec.new").write_text(text)
@@ -263,7 +264,8 @@ def test_who_sets_aside_what_an_earlier_run_left(record, tmp_path):
 @pytest.mark.parametrize("first", ["live", "none"])
 @pytest.mark.parametrize("second", ["end", "live", "none"])
 def test_a_second_server_by_mistake(first, second):
-    """A second server at the same address or in the same folder does not start, and the files of the first server stay unchanged.
+    """A second server at the same address or in the same folder does not start, and the files of the first server stay
+    unchanged.
     """
     with serving_alone("--record", first, "can0,can1") as server:
         pair, names = Pair(server), names_in(server.folder)
@@ -345,8 +347,8 @@ def spelled(number):
 
 
 def kill_under_load(rng, rate):
-    """Kills a server at a random time. Checks that its files are correct and that the next server sets its record aside. Returns
-    the number of entries in the record, and of sends and receives that the clients knew of in time."""
+    """Kills a server at a random time. Checks that its files are correct and that the next server sets its record
+    aside. Returns the number of entries in the record, and of sends and receives that the clients knew of in time."""
     with serving_alone(*LIVE, *FAST, "--flush", str(round(1000 * FLUSH)), "can0,can1") as server:
         load = Load(server, rate=rate)
         # This is a random time, not a wait for an event.
@@ -379,8 +381,8 @@ def kill_under_load(rng, rate):
 
 
 def set_aside(server, path, text):
-    """Checks that the next server in the folder of a killed one keeps its record, reports this, and takes over and removes the lock
-    file."""
+    """Checks that the next server in the folder of a killed one keeps its record, reports this, and takes over and
+    removes the lock file."""
     with serving_alone(*LIVE, "can0,can1", out=server.folder) as after:
         aside = f"{server.folder}/can0.rec.cut"
         after.end(says=f"note: {path} of a run that was cut off is {aside} now")
@@ -389,8 +391,8 @@ def set_aside(server, path, text):
 
 
 def compare_log(log, entries):
-    """Compares the lines of the log with the attempts of the record. One list may be longer than the other. Returns the number of
-    lines of the log."""
+    """Compares the lines of the log with the attempts of the record. One list may be longer than the other. Returns the
+    number of lines of the log."""
     lines = log[: log.rfind("\n") + 1].splitlines()
     tried = [entry.split(" ") for entry in entries if " = tried " in entry]
     wanted = [f"({words[1]:0>17}) can{words[5]} {words[7]}" for words in tried]
@@ -402,7 +404,8 @@ def compare_log(log, entries):
 @pytest.mark.quiet
 @pytest.mark.parametrize("kills", [10, pytest.param(200, marks=pytest.mark.slow)])
 def test_kills_at_random_moments(rng, kills):
-    """Killed servers leave correct files that are not late, under a load of 15,000 entries a second that the server can carry."""
+    """Killed servers leave correct files that are not late, under a load of 15,000 entries a second that the server can
+    carry."""
     runs = [kill_under_load(rng, 5000) for _ in range(kills)]
     entries = [one[0] for one in runs]
     print(f"{kills} kills, after {min(entries)} to {max(entries)} entries")
@@ -423,14 +426,16 @@ def settings_of_the_service():
 
 
 def test_the_service_talks_to_this_machine_only():
-    """The service listens at the default address, 127.0.0.1, and the system lets it exchange packets with no other machine."""
+    """The service listens at the default address, 127.0.0.1, and the system lets it exchange packets with no other
+    machine."""
     settings = settings_of_the_service()
     assert "--listen" not in settings["ExecStart"] + settings["Environment"]
     assert (settings["IPAddressDeny"], settings["IPAddressAllow"]) == ("any", "localhost")
 
 
 def test_the_service_keeps_what_the_run_before_it_left(tmp_path):
-    """Before each start the service moves all files of the last run together. If there are none, the files moved before stay."""
+    """Before each start the service moves all files of the last run together. If there are none, the files moved before
+    stay."""
     settings = settings_of_the_service()
     before = shlex.split(settings["ExecStartPre"].replace("$$", "$"))
 
@@ -492,7 +497,8 @@ def test_a_run_after_one_that_was_killed():
 
 
 def not_whole(server, name="can0.rec.new"):
-    """Returns the number of entries that the server reports for this unfinished record, or None if it has reported nothing."""
+    """Returns the number of entries that the server reports for this unfinished record, or None if it has reported
+    nothing."""
     found = re.search(
         rf"^canbusd: write fault\n  \S*{re.escape(name)}: .+\n  it has the first (\d+) entries, and no end$",
         server.said(),
@@ -523,7 +529,8 @@ def fill(server, pair, *ready):
 
 
 def test_files_that_grow_to_a_limit():
-    """A file that reaches a size limit ends at a whole line, the server reports how much the file has, and the bus goes on."""
+    """A file that reaches a size limit ends at a whole line, the server reports how much the file has, and the bus goes
+    on."""
     most = 20_000
     # The limit also applies to the server's standard error, which stays shorter.
     with serving_alone(*LIVE, "--pace", "0", "can0,can1", "car0,car1", preexec_fn=may_grow(most)) as server:
@@ -541,13 +548,15 @@ def test_files_that_grow_to_a_limit():
 
 
 def log_lines(server):
-    """Returns the number of lines that the server reports for a log that it could not write, or None if it has reported nothing."""
+    """Returns the number of lines that the server reports for a log that it could not write, or None if it has reported
+    nothing."""
     found = re.search(r"^canbusd: log of can0: (\d+) whole lines$", server.said(), re.M)
     return int(found[1]) if found else None
 
 
 def check_cut(folder, entries, lines, most):
-    """Checks files that could grow no further: they have whole lines, as many as reported, and no record looks complete."""
+    """Checks files that could grow no further: they have whole lines, as many as reported, and no record looks
+    complete."""
     record, log = os.path.join(folder, "can0.rec.new"), os.path.join(folder, "can0.log")
     for path in (record, log):
         assert read(path).endswith("\n") and most - 300 <= os.path.getsize(path) <= most, path
@@ -612,7 +621,8 @@ def disk():
 
 
 def test_a_disk_that_is_full(disk, tmp_path):
-    """On a full disk that several files share, the record ends at a whole line, the server reports this, and the bus goes on."""
+    """On a full disk that several files share, the record ends at a whole line, the server reports this, and the bus
+    goes on."""
     small, folder = disk
     launcher, stdin = small.launcher(tmp_path), subprocess.PIPE
     with serving(
@@ -664,7 +674,8 @@ def waited(path):
 
 
 def test_a_log_whose_reader_goes(pipe):
-    """If the reader of a log goes away, this is reported at once, with the number of lines in the log, and the record is complete.
+    """If the reader of a log goes away, this is reported at once, with the number of lines in the log, and the record
+    is complete.
     """
     log, folder = pipe
     with serving_alone(*LIVE, "--flush", "0", "can0,can1", out=folder) as server:
@@ -685,8 +696,8 @@ def test_a_log_whose_reader_goes(pipe):
 
 
 def test_a_folder_that_is_moved():
-    """A server whose folder is moved goes on writing, and reports that it can't rename its record. The lock file stays in the moved
-    folder."""
+    """A server whose folder is moved goes on writing, and reports that it can't rename its record. The lock file stays
+    in the moved folder."""
     with tempfile.TemporaryDirectory() as room:
         folder, other = os.path.join(room, "one"), os.path.join(room, "other")
         os.mkdir(folder)
@@ -705,7 +716,8 @@ def test_a_folder_that_is_moved():
 
 
 def test_what_is_there_in_the_place_of_a_file(tmp_path):
-    """A link at the name where the record is written is removed. A server that can't write one of its files does not listen."""
+    """A link at the name where the record is written is removed. A server that can't write one of its files does not
+    listen."""
     other = tmp_path / "other"
     other.write_text("of another\n")
     folder = tmp_path / "linked"
@@ -824,7 +836,8 @@ def test_a_disk_that_is_slow(failing):
 
 @pytest.mark.slow
 def test_a_disk_that_stands_still(pipe):
-    """If nobody reads the log, calls wait and nothing is lost. Once the log is read everything continues, and the wait is reported.
+    """If nobody reads the log, calls wait and nothing is lost. Once the log is read everything continues, and the wait
+    is reported.
     """
     log, folder = pipe
     with serving_alone("--record", "none", *FAST, "can0,can1", out=folder) as server:
@@ -846,7 +859,8 @@ def test_a_disk_that_stands_still(pipe):
 
 
 def wait_for_stall(load):
-    """Waits until no client gets anything for a while, although frames are in flight; returns the number of replies to sends."""
+    """Waits until no client gets anything for a while, although frames are in flight; returns the number of replies to
+    sends."""
     before, looks = -1, 0
     for _ in turns("it makes no more calls", 6 * WAIT):
         count = load.sender.count + load.receiver.count
@@ -864,8 +878,8 @@ def test_memory_of_a_run_without_a_record(pipe):
     words = ["--record", "none", "--pace", "0", "--txqueue", "1024", "--rxqueue", "4096", "--write", "16384"]
     with serving_alone(*words, "can0,can1", out=folder) as server:
         load = Load(server, many=500)
-        # The bus fills one block while the log waits with the other block. Then they are exchanged: the bus goes on, and the log
-        # waits with the full block.
+        # The bus fills one block while the log waits with the other block. Then they are exchanged: the bus goes on,
+        # and the log waits with the full block.
         count = wait_for_stall(load)
         for _ in log.pieces():
             if load.sender.count > count:
@@ -902,8 +916,8 @@ def test_more_sessions_than_a_run_has_that_ends(record):
 
 @pytest.mark.parametrize("record", ["live", "none"])
 def test_a_session_counts_once_it_is_raw(record):
-    """Only sessions in raw mode count for --sessions. A session that enters raw mode after the last one is closed, and the server
-    ends with its sessions."""
+    """Only sessions in raw mode count for --sessions. A session that enters raw mode after the last one is closed, and
+    the server ends with its sessions."""
     with serving_alone("--record", record, "--sessions", "1", "can0,can1") as server:
         for _ in range(3):
             looks = Plain(server)
@@ -921,8 +935,9 @@ def test_a_session_counts_once_it_is_raw(record):
 
 
 def come_and_go(server, count):
-    """Opens this many sessions, each of which opens an interface and closes it. A place is free again after its client sees the end
-    of the session, some 20 milliseconds later. Until then others connect, but never more than a server has places for."""
+    """Opens this many sessions, each of which opens an interface and closes it. A place is free again after its client
+    sees the end of the session, some 20 milliseconds later. Until then others connect, but never more than a server has
+    places for."""
     leaving = collections.deque()
     for _ in range(count):
         client = plain(server, "can0")

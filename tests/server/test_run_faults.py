@@ -1,8 +1,9 @@
-"""Tests the fault rules that `serve --out` writes next to a record in NAME.rec.faults, so that a reader knows each rule of the run.
+"""Tests the fault rules that `serve --out` writes next to a record in NAME.rec.faults, so that a reader knows each rule
+of the run.
 
-The tests are a run by hand, byte for byte; sessions that add and end rules while others send, where rule_model.py decides each
-attempt of the record by that file; killed servers; and the files of a folder before and after a run. test_audit_rules.py tests what
-the lines mean.
+The tests are a run by hand, byte for byte; sessions that add and end rules while others send, where rule_model.py
+decides each attempt of the record by that file; killed servers; and the files of a folder before and after a run.
+test_audit_rules.py tests what the lines mean.
 """
 
 import contextlib
@@ -57,8 +58,8 @@ def give(client, rule):
 
 
 class Written(RunFaults):
-    """The faults of a run as a server writes them. Each line must have had an effect: a new rule had a place, and a line that ends
-    rules found at least one."""
+    """The faults of a run as a server writes them. Each line must have had an effect: a new rule had a place, and a
+    line that ends rules found at least one."""
 
     def take(self, rule):
         assert len(self.rules) < MOST_RULES, f"{rule} was not taken"
@@ -70,8 +71,8 @@ class Written(RunFaults):
 
 
 def decided(record, faults, names):
-    """Returns the rules that decide the attempts of a record with these faults; the rule is empty if none decides. Checks that each
-    attempt has the verdict of the model."""
+    """Returns the rules that decide the attempts of a record with these faults; the rule is empty if none decides.
+    Checks that each attempt has the verdict of the model."""
     model, found = Written(faults, names), []
     for line in record.splitlines():
         words = line.split(" ")
@@ -91,9 +92,10 @@ def audited(record, faults, names):
     return rules_of(events)
 
 
-# A run by hand. Rules 1 and 2 are in the script, which has no LF at its end. Rule 1 decides attempt 0, the numbered line decides
-# attempt 1, and attempt 2 is good. Rule 3, the first rule given by a client, decides attempt 3, and attempt 4 is good. Then rules 2
-# and 4 are ended, so attempt 5 is good. Rule 5 decides attempt 6, and attempt 7 is good.
+# A run by hand. Rules 1 and 2 are in the script, which has no LF at its end. Rule 1 decides attempt 0, the numbered
+# line decides attempt 1, and attempt 2 is good. Rule 3, the first rule given by a client, decides attempt 3, and
+# attempt 4 is good. Then rules 2 and 4 are ended, so attempt 5 is good. Rule 5 decides attempt 6, and attempt 7 is
+# good.
 BY_HAND = """# of a morning: \u00e9t\u00e9
 
 next 1 from ecu lastbit
@@ -189,7 +191,8 @@ def test_without_faults(when):
 
 @pytest.mark.parametrize("when", WHEN)
 def test_rules_that_are_used_up(when):
-    """`nofaults` writes no line if all rules are used up. If 64 rules are accepted and one more is refused, 64 are written."""
+    """`nofaults` writes no line if all rules are used up. If 64 rules are accepted and one more is refused, 64 are
+    written."""
     with serving_alone("--record", when, "can0,can1") as server:
         one, other = plain(server, "can0"), plain(server, "can1")
         assert give(one, "next 2 lastbit") == "< ok >"
@@ -234,8 +237,8 @@ PACES = [("--pace", "0"), ("--pace", "1"), ("--bitrate", "1000000"), ("--bitrate
 
 
 class Crowd:
-    """Sessions on the buses of a server, each in a thread. Two sessions send at each interface. Two sessions on each bus add and
-    end rules until all frames were sent."""
+    """Sessions on the buses of a server, each in a thread. Two sessions send at each interface. Two sessions on each
+    bus add and end rules until all frames were sent."""
 
     def __init__(self, server, rng, rounds):
         self.is_over, self.faults = threading.Event(), []
@@ -301,7 +304,8 @@ def end_busy(server):
 
 
 def scripts(maker, folder):
-    """Writes a random script, or none, for each bus; returns the texts, and the words of the command line for the buses."""
+    """Writes a random script, or none, for each bus; returns the texts, and the words of the command line for the
+    buses."""
     texts = {first: maker.script(names, 100) if maker.chance(0.7) else "" for first, names in BUSES.items()}
     for first, text in texts.items():
         (folder / f"{first}.script").write_text(text, encoding="utf-8")
@@ -316,8 +320,8 @@ def written(folder, first, ending=""):
 
 
 def check(folder, first, script, record, faults):
-    """Checks that the faults are the script and later lines, and that each attempt has the verdict and, in the audit, the rule that
-    the model decides. Returns these rules, and the later lines without their numbers."""
+    """Checks that the faults are the script and later lines, and that each attempt has the verdict and, in the audit,
+    the rule that the model decides. Returns these rules, and the later lines without their numbers."""
     names = BUSES[first]
     front = script + "\n" * bool(script and not script.endswith("\n"))
     assert faults.startswith(front)
@@ -343,7 +347,8 @@ def alike(rules, names):
 @pytest.mark.parametrize("count", [1, pytest.param(20, marks=pytest.mark.slow)])
 @pytest.mark.parametrize("when", WHEN)
 def test_rules_that_come_while_others_send(when, count, pace, rng, tmp_path):
-    """The faults have each rule that a bus accepted, at the attempt where it takes effect, and no rule that the bus refused."""
+    """The faults have each rule that a bus accepted, at the attempt where it takes effect, and no rule that the bus
+    refused."""
     decisions = 0
     for number in range(count):
         folder = tmp_path / str(number)
@@ -384,7 +389,8 @@ def test_faults_of_a_run_that_goes_on(pace, rng, tmp_path):
 
 @pytest.mark.parametrize("kills", [4, pytest.param(100, marks=pytest.mark.slow)])
 def test_servers_that_are_killed(kills, rng, tmp_path):
-    """A killed server leaves faults that suffice for the written entries, and the next server sets them aside with the record."""
+    """A killed server leaves faults that suffice for the written entries, and the next server sets them aside with the
+    record."""
     attempts = 0
     for number in range(kills):
         folder = tmp_path / str(number)
@@ -511,8 +517,8 @@ def start_beside_a_mount(place, folder, *words):
 @pytest.mark.parametrize("when", WHEN)
 @pytest.mark.parametrize("kind", ["rec.cut", "rec.faults.cut"])
 def test_a_place_that_is_taken_meanwhile(when, kind, tmp_path):
-    """If a rename fails because its target is taken, the start is refused, but the record and its faults are not lost: the next
-    start sets both aside."""
+    """If a rename fails because its target is taken, the start is refused, but the record and its faults are not lost:
+    the next start sets both aside."""
     leave(tmp_path, rec_new=KILLED, rec_faults_new="# of it\n", rec_cut=FRONT, rec_faults_cut="# of another one\n")
     place = f"{tmp_path}/can0.{kind}"
     status, said, errors = start_beside_a_mount(place, tmp_path, "--record", when, "can0")
@@ -536,8 +542,8 @@ def killed_before(tmp_path):
 
 
 def all_kills(folder, environments, leave_files, *words):
-    """Starts a server in a new folder with these files for each environment, until one of them is not killed. Yields each folder
-    after its server has ended."""
+    """Starts a server in a new folder with these files for each environment, until one of them is not killed. Yields
+    each folder after its server has ended."""
     for number, environment in enumerate(environments):
         place = folder / f"of-{number}"
         place.mkdir()
@@ -666,8 +672,8 @@ def may_grow(most):
 
 
 def test_a_disk_that_is_full(tmp_path):
-    """Faults that do not fit on the disk are reported. The new record has no faults of another run next to it, and none that look
-    complete."""
+    """Faults that do not fit on the disk are reported. The new record has no faults of another run next to it, and none
+    that look complete."""
     leave(tmp_path, rec="of an earlier run\n", rec_faults="of its faults\n")
     script = "# a comment\n" * 1000
     status, said, errors = start(tmp_path, "--record", "end", bus_of(tmp_path, script), preexec_fn=may_grow(5000))
@@ -692,7 +698,8 @@ def test_a_disk_that_is_full_at_the_start(tmp_path):
 
 @pytest.mark.parametrize("when", WHEN)
 def test_rules_that_find_no_room(when):
-    """Rules that do not fit on the disk are reported and the bus goes on. No faults are left, because they would lack a rule."""
+    """Rules that do not fit on the disk are reported and the bus goes on. No faults are left, because they would lack a
+    rule."""
     rule = "next 99999999 from can1 id 00000123:1FFFFFFF good"
     words = [*(LIVE if when == "live" else ()), "can0,can1"]
     with serving_alone(*words, preexec_fn=may_grow(5000)) as server:
@@ -727,8 +734,8 @@ def test_a_kill_after_rules_that_find_no_room(tmp_path):
 
 @pytest.mark.parametrize("when", [*WHEN, "none", "nowhere"])
 def test_the_most_lines_that_wait(when):
-    """At most 64 MiB of lines wait for a bus; then rules are refused, and frames go on. The lines are written at the end. Lines
-    that are written while the server runs do not wait, and without a faults file no lines are kept."""
+    """At most 64 MiB of lines wait for a bus; then rules are refused, and frames go on. The lines are written at the
+    end. Lines that are written while the server runs do not wait, and without a faults file no lines are kept."""
     name = "longest-name.15"
     rule = f"always from {','.join([name] * 60)} good"
     words = ["--record", "end" if when == "nowhere" else when, f"{name},can1"]

@@ -51,8 +51,8 @@ def test_nearly_full_record():
 
 
 def test_verbose():
-    """With --verbose each client, each opened interface, each end of a session, each bus off and each restart is reported on a line
-    with its time."""
+    """With --verbose each client, each opened interface, each end of a session, each bus off and each restart is
+    reported on a line with its time."""
     words = ("--verbose", "--auto-restart", "3", "--pace", "0", f"can0,can1@{ROOT}/examples/bus_off_attack.script")
     with serving(*words) as server:
         can0 = plain(server, "can0")
@@ -76,8 +76,8 @@ def test_verbose():
 
 
 def test_down_and_up():
-    """An interface that is down reports this, and sends and receives nothing. It comes up by a restart, and the server reports both
-    changes."""
+    """An interface that is down reports this, and sends and receives nothing. It comes up by a restart, and the server
+    reports both changes."""
     with serving("--verbose", "--pace", "0", "can0,can1") as server:
         can0, can1 = plain(server, "can0"), plain(server, "can1")
         replies = [can0.answer(f"< {words} >") for words in ("down", "status", "send 123 0")]
@@ -113,7 +113,8 @@ def test_verbose_of_another_bus():
         (can1, port), (can0, other) = ports
         can1.write("< send 123 0 >")
         assert come_true(lambda: said_in_turn(server)[-1:] == ["can1: restarted"]), server.said()
-        # There are 38 entries: two sockets, a send, 32 attempts and three until the restart. Each further frame adds three entries.
+        # There are 38 entries: two sockets, a send, 32 attempts and three until the restart. Each further frame adds
+        # three entries.
         for value in range(4):
             can1.write(f"< send 123 1 {value} >")
             assert can0.frame() == ("123", bytes([value])), "not the frame"
@@ -162,7 +163,8 @@ def test_each_of_64_sessions():
 
 
 def test_counts_of_verbose():
-    """With --verbose the report has the lost frames of a session, and the restart that comes after many calls of its session."""
+    """With --verbose the report has the lost frames of a session, and the restart that comes after many calls of its
+    session."""
     words = ("--verbose", "--pace", "0", "--txqueue", "1024", "--rxqueue", "1")
     with serving(*words, f"can0,can1@{ROOT}/examples/bus_off_attack.script", "can2,can3") as server:
         off = plain(server, "can0")
@@ -193,7 +195,8 @@ def test_counts_of_verbose():
 
 @pytest.mark.slow
 def test_raw_sessions_keep_their_places():
-    """If a newcomer finds no free place, a client that was silent for a minute loses its place, but no session in raw mode does."""
+    """If a newcomer finds no free place, a client that was silent for a minute loses its place, but no session in raw
+    mode does."""
     with serving("can0,can1") as server:
         raw = [plain(server, "can0") for _ in range(63)]
         silent = Plain(server)
@@ -304,8 +307,8 @@ def test_bytes_of_a_write(most):
 @pytest.mark.skipif(not shutil.which("cc"), reason="no C compiler: cc")
 @pytest.mark.parametrize("words, most", [(["--write", "256"], 256), ([], 1024), (["--write", "3000"], 3000)])
 def test_lengths_of_writes(words, most, tmp_path):
-    """Each write has only complete frames and does not exceed the limit. If many frames wait, a write is longer than half of the
-    limit (noted_sends.c)."""
+    """Each write has only complete frames and does not exceed the limit. If many frames wait, a write is longer than
+    half of the limit (noted_sends.c)."""
     library, sends = tmp_path / "noted_sends.so", tmp_path / "sends"
     source = os.path.join(ROOT, "tests", "helpers", "noted_sends.c")
     subprocess.run(["cc", "-O2", "-Wall", "-Werror", "-fPIC", "-shared", "-o", library, source], check=True)
@@ -417,7 +420,8 @@ def test_ends_while_busy():
 
 
 def test_unix_path(tmp_path):
-    """A server takes over a socket file without a listener, and removes it at the end. It leaves a socket that is in use."""
+    """A server takes over a socket file without a listener, and removes it at the end. It leaves a socket that is in
+    use."""
     path = os.path.join(tmp_path, "socket")
     with socket.socket(socket.AF_UNIX) as stale:
         stale.bind(path)
@@ -449,7 +453,8 @@ def connected(server):
 def heard(connection):
     """Returns all bytes that a connection receives until its end.
 
-    Sends a byte first: if Linux dropped a new connection on the server's side, the client learns this only when it sends.
+    Sends a byte first: if Linux dropped a new connection on the server's side, the client learns this only when it
+    sends.
     """
     text = b""
     with contextlib.suppress(ConnectionResetError, BrokenPipeError):
@@ -523,7 +528,8 @@ def test_own_socket_file(tmp_path):
     def second():
         return call(program(), "serve", "--listen", path, "can0")[0]
 
-    # A server that asks for the path does not count as a session of the first server, even if the first server is stopped.
+    # A server that asks for the path does not count as a session of the first server, even if the first server is
+    # stopped.
     with serving_alone("--sessions", "1", "can0", address=path) as server:
         assert second() == 1, "two servers have one path"
         os.kill(server.child.pid, signal.SIGSTOP)
@@ -575,8 +581,8 @@ def test_own_socket_file(tmp_path):
 
 
 def test_folder_of_a_server(tmp_path):
-    """A folder that accepts no files is refused before the server listens. Files of an earlier run stay until the new files are
-    complete."""
+    """A folder that accepts no files is refused before the server listens. Files of an earlier run stay until the new
+    files are complete."""
     none = os.path.join(tmp_path, "none")
     words = [program(), "serve", "--listen", "127.0.0.1:0", "--until-eof", "--out"]
     said = f"canbusd: cannot open {none}\n  {none}/can0.rec.new: No such file or directory (os error 2)\n"

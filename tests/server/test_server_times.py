@@ -25,7 +25,8 @@ from wire_times import IDLE, SECOND, Ending, Rates
 # By how much a client's clock may differ from the server's, in seconds. Both show the system's time at the start.
 CLOCKS = 0.001
 EIGHT_BYTES = Frame.read("123#1122334455667788")
-# How many frames wait in a queue. The client keeps the queue full unless it is later than the time that these frames take.
+# How many frames wait in a queue. The client keeps the queue full unless it is later than the time that these frames
+# take.
 WINDOW = 1024
 
 
@@ -103,7 +104,8 @@ def received(client: Plain) -> int:
 @patiently
 @pytest.mark.parametrize("nominal", [5_000, 125_000, 1_000_000])
 def test_moments_are_those_of_the_bench(nominal: int, rng: random.Random) -> None:
-    """Waiting frames follow one another without gaps, with the same times as on a bench whose time is set to the first send."""
+    """Waiting frames follow one another without gaps, with the same times as on a bench whose time is set to the first
+    send."""
     rates = Rates(nominal, rng.choice([None, nominal, 8 * nominal]))
     frames = [random_frame(rng) for _ in range(12)]
     with serving(*rate_options(rates), "--txqueue", "1024", "can0,can1") as server:
@@ -272,8 +274,8 @@ def test_late_server_leaves_out_what_it_missed() -> None:
 @pytest.mark.skipif(not shutil.which("cc"), reason="no C compiler: cc")
 @pytest.mark.parametrize("words, later", [(["--bitrate", "500000"], 0), ([], 3600)])
 def test_a_clock_that_is_set(words: Sequence[str], later: int, tmp_path: pathlib.Path) -> None:
-    """If the clock is set by an hour (set_clock.c), times with a bit rate continue as before, and times without one follow the
-    clock."""
+    """If the clock is set by an hour (set_clock.c), times with a bit rate continue as before, and times without one
+    follow the clock."""
     library, changed = tmp_path / "set_clock.so", tmp_path / "changed"
     source = os.path.join(ROOT, "tests", "helpers", "set_clock.c")
     subprocess.run(["cc", "-O2", "-Wall", "-Werror", "-fPIC", "-shared", "-o", library, source], check=True)
@@ -342,8 +344,8 @@ class Filling:
         self.sender.socket.sendall(count * self.text)
 
     def take(self) -> tuple[float, float]:
-        """Waits for frames, reads all that have arrived, and sends as many. Returns the time of the last arrival, and the frame's
-        timestamp."""
+        """Waits for frames, reads all that have arrived, and sends as many. Returns the time of the last arrival, and
+        the frame's timestamp."""
         whole = 0
         while not whole:
             self.left += self.receiver.socket.recv(1 << 20)
@@ -362,8 +364,8 @@ class Filling:
 
 
 def least_late(arrivals: list[tuple[float, float]]) -> tuple[float, float]:
-    """Returns the arrival time and the delay of the frame that was least late. The delay includes the difference of two clocks. On
-    a busy machine other frames are later, but none arrives early."""
+    """Returns the arrival time and the delay of the frame that was least late. The delay includes the difference of two
+    clocks. On a busy machine other frames are later, but none arrives early."""
     late, came = min((came - moment, came) for came, moment in arrivals)
     return came, late
 

@@ -1,7 +1,7 @@
 """A page in a browser can't put frames on a bus, because its requests to the server's port do not begin like a client.
 
-A page of another site may send by `fetch` with mode `no-cors` without any permission. It may not read the response, but it does not
-need to. After DNS rebinding a page has the server's own origin, and may choose any method.
+A page of another site may send by `fetch` with mode `no-cors` without any permission. It may not read the response, but
+it does not need to. After DNS rebinding a page has the server's own origin, and may choose any method.
 """
 
 import contextlib
