@@ -1,4 +1,4 @@
-"""`canbusd bits`: the bits of frames agree with an independent model (wire_model.py), and with the bits that pages
+"""Tests `canbusd bits`: the bits of frames agree with an independent model (wire_model.py) and with the bits that pages
 show."""
 
 from __future__ import annotations
@@ -18,8 +18,8 @@ from serving import ROOT, program
 from wire_model import Frame, arbitration_bits, bit_counts, random_frames, sent
 
 INTERMISSION = [1, 1, 1]
-# These bits are worked out by hand: 34 zeros including those of the CRC, with a stuff bit after each five. The others
-# differ from them in the last bit of the identifier, and in RTR.
+# These bits are worked out by hand: 34 zeros including those of the CRC, with a stuff bit after every five zeros. The
+# other frames differ from frame 000# in the last bit of the identifier, and in RTR.
 ZEROS = """SOF            0
 identifier     0000(1)00000(1)00
 RTR            0
@@ -46,7 +46,7 @@ def frames_of_all_kinds(count: int) -> Iterator[Frame]:
 
 
 def bits_of(*words: str) -> list[str]:
-    """Returns the lines that the program writes."""
+    """Returns the lines that `canbusd bits` writes for these words."""
     status, output, errors = call(program(), "bits", *words)
     assert (status, errors) == (0, ""), words
     return output.splitlines()
@@ -57,7 +57,7 @@ def is_total(line: str) -> bool:
 
 
 def silence_of(frame: Frame, other: Frame) -> int | None:
-    """Returns the bit at which the sender of another frame falls silent."""
+    """Returns the bit in which the sender of the other frame loses arbitration, or None if it does not lose."""
     if arbitration_bits(frame) >= arbitration_bits(other):
         return None
     return next(place for place, (bit, its) in enumerate(zip(sent(frame).bits, sent(other).bits)) if bit != its)

@@ -1,4 +1,4 @@
-"""Command lines: the exact texts for refused words and help, and for buses, scripts and addresses that can't be had."""
+"""Tests the exact texts for refused words and for help, and for buses, scripts and addresses that can't be used."""
 
 import resource
 import socket
@@ -8,7 +8,8 @@ import pytest
 from commands import call, run_line
 from serving import program
 
-# test_long_runs.py tests reports on other words, and test_devices.py those on failing files and streams.
+# Refused command lines. test_long_runs.py tests other refused words, and test_devices.py tests failing files and
+# streams.
 NO_JOB = [
     "",
     "serve",
@@ -73,7 +74,7 @@ NO_JOB = [
     "bench --faults can0@a can0",
     "serve --faults can0@a can0",
 ]
-# Accepted words: the report is about the bus.
+# Command lines whose words are accepted, so that the report is about the bus.
 A_JOB = [
     "bench --record run.rec --log /run.rec can0,can0",
     "bench --record run.rec --log a/run.rec can0,can0",
@@ -95,7 +96,7 @@ A_JOB = [
     "serve --record none --flush 60000 --sync can0,can0",
     "serve --record none --sessions 4294967295 can0,can0",
 ]
-# Words, and the beginning of the report on them.
+# Refused words, and the beginning of the report on them.
 REFUSED = [
     (
         "bench --bitrate 500000 --dbitrate 499999 can0",
@@ -222,7 +223,7 @@ HELP = [
     ("serve -h", "Serve clients on buses\n"),
     ("help serve", "Serve clients on buses\n"),
 ]
-# Words, and the complete report on them.
+# Words with a bus that is refused, and the complete report.
 NO_BUS = [
     ("bench can0,can0", "canbusd: bad bus\n  can0: this name is given twice\n"),
     ("bench a,b,can1,b@none", "canbusd: bad bus\n  b: this name is given twice\n"),
@@ -268,7 +269,7 @@ NO_SCRIPT = [
     ),
     ("bench can0@.", "canbusd: read fault\n  .: Is a directory (os error 21)\n"),
 ]
-# Buses that need more than 16 megabytes, and the report on that.
+# Commands with buses that need more than 16 megabytes, and the note on that.
 TOO_LARGE = [
     ("bench can0", "a run reserves 108 bytes of memory for each event of --limit"),
     ("serve can0", "each bus reserves 108 bytes of memory for each event of --limit"),
@@ -319,7 +320,8 @@ def test_buses_that_memory_is_too_small_for(line, note, tmp_path):
 
 
 def test_addresses_that_are_taken(tmp_path):
-    """a port gets a note, a file that is no socket stays, and so does a socket at which a program listens"""
+    """For a port in use the report has a note. A file that is no socket stays, and so does a socket at which a program
+    listens."""
 
     def refused(address, note=""):
         errors = f"canbusd: cannot listen\n  {address}: Address already in use (os error 98)\n{note}"
@@ -338,7 +340,7 @@ def test_addresses_that_are_taken(tmp_path):
 
 
 def test_a_log_that_is_a_folder(tmp_path):
-    """the fault is reported at the end, and the record exists"""
+    """A server whose log is a folder reports this at its end, and still writes its record."""
     (tmp_path / "can0.log").mkdir()
     errors = "canbusd: cannot open ./can0.log\n  ./can0.log: Is a directory (os error 21)\n"
     listening = "listening ./lost\nbus can0 entries 0\n"

@@ -1,4 +1,4 @@
-"""Completions: the test types a line into each shell, and then the tab key."""
+"""Tests completions: each test types lines into a shell, each followed by the tab key."""
 
 import contextlib
 import os
@@ -17,7 +17,7 @@ from serving import ROOT, WAIT
 
 TOOLS = os.path.join(ROOT, "tools")
 COMPLETIONS = os.path.join(TOOLS, "completions")
-# The tools are run for their help.
+# The completions run these tools to read their help.
 PATH = f"{TOOLS}:{os.environ['PATH']}"
 FILES = ["faults.script", "first.bench", "run.rec", "out.txt", "my faults.script", "logs/kept.rec"]
 # The typed text, and the text that the tab key adds.
@@ -67,7 +67,8 @@ TYPED = [
     ("canbusd serve --lo", ""),
     ("canbusd serve --str", ""),
 ]
-# The beginning of an option that takes a value, and the rest of its name, after which a shell adds its own sign.
+# The beginning of an option that takes a value, and the rest of the option's name. A shell adds its own sign after the
+# name.
 OPTIONS = [
     ("canbusd bench --lo", "g"),
     ("canbusd bench --rec", "ord"),
@@ -97,7 +98,7 @@ def folder_of_files():
 
 
 class Shell:
-    """A shell at its own terminal, where Ctrl-T shows the line that is being typed, and discards it."""
+    """A shell at its own terminal. Ctrl-T shows the line that is being typed, and discards it."""
 
     def __init__(self, words, folder):
         try:
@@ -110,7 +111,7 @@ class Shell:
             os.execvpe(words[0], words, environment)
 
     def until(self, pattern):
-        """Returns the first text on the terminal that matches this pattern."""
+        """Waits for a text on the terminal that matches this pattern; returns the match."""
         end, text = time.monotonic() + WAIT, ""
         while time.monotonic() < end:
             if select.select([self.terminal], [], [], 0.1)[0]:
@@ -124,7 +125,7 @@ class Shell:
         os.write(self.terminal, text.encode())
 
     def completed(self, typed):
-        """Returns the line after the tab key."""
+        """Types this text and the tab key; returns the line after that."""
         self.write(typed + "\t\x14")
         return self.until("LINE\\[(.*?)\\]")[1].replace("\r\n", "")
 
@@ -135,12 +136,12 @@ class Shell:
 
 
 def typed_with(sign):
-    """Returns the typed text, and the text that the tab key adds if a shell puts this sign after an option."""
+    """Returns pairs of a typed text and the text that the tab key adds, in a shell that puts this sign after an option."""
     return TYPED + [(typed, rest + sign) for typed, rest in OPTIONS]
 
 
 def completes(words, sign, *commands):
-    """Types each line into the shell, after commands that prepare the shell."""
+    """Checks the completion of each line in a shell, after commands that prepare the shell."""
     if not shutil.which(words[0]):
         pytest.skip(f"{words[0]} is not installed")
     with folder_of_files() as folder, contextlib.closing(Shell(words, folder)) as shell:
@@ -161,12 +162,12 @@ BASH_LINE = [
 
 
 def test_completion_in_bash():
-    """completion works in bash without further settings"""
+    """Completion works in bash without further settings."""
     completes(["bash", "--norc", "--noprofile", "-i"], " ", f"source {COMPLETIONS}/canbusd.bash", *BASH_LINE)
 
 
 def test_completion_in_bash_with_other_words():
-    """completion works if neither `=` nor `@` separates words"""
+    """Completion works in bash if neither `=` nor `@` separates words."""
     completes(
         ["bash", "--norc", "--noprofile", "-i"],
         " ",
@@ -177,7 +178,7 @@ def test_completion_in_bash_with_other_words():
 
 
 def test_completion_in_zsh():
-    """completion works with zsh's own completion system, which finds the file by its name"""
+    """Completion works with the completion system of zsh, which finds the file by its name."""
     completes(
         ["zsh", "-f", "-i"],
         "=",
@@ -195,7 +196,7 @@ def test_completion_in_zsh():
 
 
 def test_completion_in_fish():
-    """fish offers the right completions for each line"""
+    """fish offers the right completions for each line."""
     if not shutil.which("fish"):
         pytest.skip("fish is not installed")
     with folder_of_files() as folder:

@@ -1,8 +1,8 @@
-"""The package of scripts/deb: lintian, and in a clean Debian of each suite how apt installs it, what it runs, and
-what is left.
+"""Tests the package that scripts/deb makes: what lintian reports, and in a clean Debian of each suite how apt installs
+the package, what it runs, and what it leaves.
 
-Where glibc is too old apt has to refuse it. BASES names a folder with a debootstrap of each suite (debootstrap
---variant=minbase); without it they are made.
+If the glibc of a suite is too old, apt must refuse the package. BASES names a folder with a debootstrap of each suite
+(debootstrap --variant=minbase); without BASES the tests make them.
 """
 
 import os
@@ -22,7 +22,7 @@ pytestmark = [
 ]
 EXAMPLES = os.path.join(ROOT, "examples")
 APT_INSTALL = "apt-get update -qq && apt-get install -qq -y --no-install-recommends /tmp/canbusd_*.deb"
-# Starts a server in a folder, ends it, and asks for its record. (A script's background job gets no SIGINT.)
+# Starts a server in a folder, ends it, and audits its record. (A background job of a script gets no SIGINT.)
 SERVES = """cd "$0" && : >served
 canbusd "$@" >served & server=$!
 until grep -qs listening served; do sleep 0.1; kill -0 $server || exit 1; done
@@ -105,7 +105,7 @@ def test_readme_says_which_glibc(glibc):
 
 
 def try_program(debian):
-    """Runs the bench and its audit, an example of the documents, and servers."""
+    """Runs a bench and its audit, an example of the documentation, and servers."""
     bench = "cd /tmp && canbusd bench --record run.rec can0,can1 <first_frame.bench"
     assert debian.does("sh", "-c", bench) == expected("first_frame")
     debian.does("canbusd", "audit", "/tmp/run.rec")
@@ -120,7 +120,7 @@ def try_program(debian):
 
 
 def try_tools(debian):
-    """Tests the package with python-can and pytest, a page of a run, and a log as an input."""
+    """Tests python-can and pytest with the package, makes the page of a run, and plays a log."""
     debian.does(
         "apt-get", "install", "-qq", "-y", "--no-install-recommends", "python3", "python3-can", "python3-pytest"
     )
@@ -131,7 +131,7 @@ def try_tools(debian):
 
 
 def try_unit(debian, folder):
-    """Checks that systemd accepts the unit."""
+    """Checks that systemd accepts the unit file."""
     if not shutil.which("systemd-analyze"):
         return
     unit = (debian.folder / "usr/lib/systemd/system/canbusd.service").read_text()
@@ -142,7 +142,7 @@ def try_unit(debian, folder):
 
 
 def traces(debian):
-    """Returns the leftovers of the package, except logs and caches."""
+    """Returns the files that the package left, except logs and caches."""
     kept = [debian.folder / place for place in ("tmp", "var/log", "var/cache", "proc", "sys")]
     found = [path for word in ("canbusd", "candump2bench") for path in debian.folder.rglob(f"*{word}*")]
     return [path for path in found if not any(place in path.parents for place in kept)]
@@ -150,8 +150,8 @@ def traces(debian):
 
 @pytest.mark.parametrize("suite", ["bookworm", "bullseye"])
 def test_package(package, glibc, suite, tmp_path):
-    """the package is installed, runs and is removed without a trace; if glibc is too old, apt refuses it and the
-    program does not run"""
+    """The package is installed, runs and is removed without a trace. If glibc is too old, apt refuses the package and
+    the program does not run."""
     debian = Debian(tmp_path, suite, package)
     if debian.has_glibc(glibc):
         debian.does("sh", "-c", APT_INSTALL)

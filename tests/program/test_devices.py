@@ -1,9 +1,9 @@
-"""Files and streams that fail, and the messages and files of canbusd then.
+"""Tests files and streams that fail, and what canbusd reports and writes then.
 
-Each file and stream of `bench`, `audit` and `serve` is one that is closed, full (/dev/full), a folder, missing, one
-that can't be read (/proc/self/mem), that is no text or has no end, a pipe that nobody reads, and a file that may
-grow to a few bytes only. Each run has to end with the first line that the manual page has for its fault, and a fault
-of one file leaves the others whole.
+Each file and stream of `bench`, `audit` and `serve` is, in turn, closed, full (/dev/full), a folder, missing,
+unreadable (/proc/self/mem), not text, endless, a pipe that nobody reads, or a file that may grow to only a few bytes.
+Each run must end with the first line that the manual page has for its fault. A fault of one file must leave the other
+files complete.
 """
 
 import contextlib
@@ -29,7 +29,7 @@ UNREADABLE = "/proc/self/mem"
 
 @contextlib.contextmanager
 def unread_pipe():
-    """A pipe that nobody reads."""
+    """Yields a pipe that nobody reads."""
     reader, writer = os.pipe()
     os.close(reader)
     yield writer
@@ -48,7 +48,8 @@ def nothing():
 
 
 def run(*words, closes=None, most=resource.RLIM_INFINITY, **streams):
-    """Runs the program with these streams, perhaps with one of them closed, and with a limit on its memory."""
+    """Runs the program with these streams, of which one may be closed, and with a limit on its memory. Returns its
+    status, its output, and the first line of its standard error."""
 
     def begin():
         resource.setrlimit(resource.RLIMIT_AS, (most, most))
@@ -74,7 +75,7 @@ def expect(what, saw, status, output, fault):
 
 
 def test_input_of_a_bench():
-    """closed, a folder, unreadable, endless"""
+    """A bench reports an input that is closed, a folder, unreadable or endless."""
     expect("closed", run("bench", "can0", closes=0), 1, "", "read fault")
     for path in ("/", UNREADABLE):
         file = os.open(path, os.O_RDONLY)
@@ -89,7 +90,7 @@ def test_input_of_a_bench():
 
 
 def test_output_of_a_bench(tmp_path):
-    """closed, full, a pipe that nobody reads: no record is made"""
+    """A bench reports an output that is closed, full, or a pipe that nobody reads, and makes no record."""
     record = os.path.join(tmp_path, "run.rec")
     words = "bench", "--record", record, "can0,can1"
     with unread_pipe() as writer:
@@ -106,7 +107,8 @@ def test_output_of_a_bench(tmp_path):
 
 
 def test_errors_of_a_bench():
-    """the errors are closed, full, or a pipe that nobody reads: output and status stay the same"""
+    """If standard error is closed, full, or a pipe that nobody reads, the output and the status of a bench stay the
+    same."""
     for stream in (unread_pipe, full, nothing):
         with stream() as errors:
             closes = 2 if errors is None else None
@@ -118,7 +120,7 @@ def test_errors_of_a_bench():
 
 
 def test_script_of_a_bench(tmp_path):
-    """missing, a folder, unreadable, no text, endless"""
+    """A bench reports a script that is missing, a folder, unreadable, not text or endless."""
     bytes_ = os.path.join(tmp_path, "bytes")
     with open(bytes_, "wb") as file:
         file.write(b"0 good\n\xff\n")
@@ -135,7 +137,8 @@ def test_script_of_a_bench(tmp_path):
 
 
 def test_record_of_a_bench(tmp_path):
-    """full, a folder, a missing folder, a pipe that nobody reads: the output is whole"""
+    """A bench reports a record that is full, a folder, in a missing folder, or a pipe that nobody reads. Its output is
+    complete."""
     for path, fault in [
         ("/dev/full", "write fault"),
         ("/", "cannot open /"),
@@ -157,7 +160,8 @@ def test_record_of_a_bench(tmp_path):
 
 
 def test_log_of_a_bench(tmp_path):
-    """full, a folder, a missing folder, a file that may not grow: the output is whole, and so is the record"""
+    """A bench reports a log that is full, a folder, in a missing folder, or a file that may not grow. Its output and
+    its record are complete."""
     line = "(0000000023.424242) can0 123#11223344\n"
     log, record = os.path.join(tmp_path, "run.log"), os.path.join(tmp_path, "run.rec")
     for path, fault in [
@@ -181,7 +185,8 @@ def test_log_of_a_bench(tmp_path):
 
 
 def may_grow(most, errors=None):
-    """Lets files grow to a number of bytes, after which writes are refused. Standard error may be a pipe instead."""
+    """Returns a function that limits the size of files to this many bytes; larger writes are refused. It may also
+    replace standard error by a pipe."""
 
     def begin():
         if errors is not None:
@@ -197,7 +202,7 @@ def grown(*words, most):
 
 
 def test_file_of_an_audit():
-    """missing, a folder, unreadable, no text, endless, a pipe"""
+    """An audit reports a record that is missing, a folder, unreadable, not text or endless, and can read a pipe."""
     for path, fault in [
         ("none", "cannot open none"),
         ("/", "read fault"),
@@ -218,7 +223,7 @@ def test_file_of_an_audit():
 
 @contextlib.contextmanager
 def ended(*words, before=lambda folder: None, **how):
-    """Runs and ends a server of two buses, with two frames on the first; returns the server, its status, and its
+    """Runs a server of two buses with two frames on the first bus, and ends it. Yields the server, its status, and its
     output."""
     with serving_alone("--pace", "0", *words, "can0,can1", "can2", **how) as server:
         before(server.folder)
@@ -230,7 +235,7 @@ def ended(*words, before=lambda folder: None, **how):
 
 
 def whole(server, *names):
-    """Returns whether exactly these files of a successful run exist."""
+    """Checks that these files are complete after a successful run."""
     for name in ("can0.rec", "can2.rec"):
         if name in names:
             server.audited(name)
@@ -241,7 +246,7 @@ def whole(server, *names):
 
 
 def test_files_of_a_server():
-    """a full file, a folder, or no memory to grow: a fault of a file affects only this file"""
+    """A fault of one file of a server, which is full or a folder, affects only this file."""
     names = ["can0.log", "can0.rec", "can2.log", "can2.rec"]
     faults = {"can0.log": "log of can0: 0 whole lines", "can0.rec": "write fault", "can2.rec": "write fault"}
     for name in names:
@@ -268,8 +273,10 @@ def leave_old(folder):
 
 
 def test_logs_that_grow_to_a_limit():
-    """the logs have only complete lines; the log of an earlier run stays, and the new one is next to it"""
-    # The line of a frame with an identifier of 29 bits and 4 bytes: (SSSSSSSSSS.MMMMMM) can0 00000000#00000001 and LF.
+    """A log that reaches a size limit has only complete lines. The log of an earlier run stays, and the new log is next
+    to it."""
+    # The length of this line for a frame with a 29-bit identifier and 4 bytes: (SSSSSSSSSS.MMMMMM) can0
+    # 00000000#00000001 and LF.
     line = 43
     note = "  what was written is in ./can0.log.new: the old file ./can0.log stays as it is\n"
     for most, count, is_first in [
@@ -302,7 +309,7 @@ def test_logs_that_grow_to_a_limit():
 
 
 def test_output_of_a_server():
-    """the output is full, closed, or a pipe that nobody reads; files are written nevertheless"""
+    """A server whose output is full, closed, or a pipe that nobody reads reports this, and still writes its files."""
     words = "serve", "--listen", "127.0.0.1:0", "--until-eof", "can0"
     with full() as file:
         expect("full", run(*words, stdout=file), 1, "", "write fault")
@@ -319,8 +326,8 @@ def test_output_of_a_server():
 
 
 def test_input_of_a_server():
-    """the input is closed, a folder, or unreadable: with --until-eof this is the end; without it nobody reads the
-    input"""
+    """An input that is empty, a folder or unreadable ends a server with --until-eof. Without --until-eof the input is
+    not read."""
     for path in ("/", UNREADABLE, "/dev/null"):
         file = os.open(path, os.O_RDONLY)
         status, output, errors = run("serve", "--listen", "127.0.0.1:0", "--until-eof", "can0", stdin=file)
@@ -332,7 +339,7 @@ def test_input_of_a_server():
 
 
 def test_a_full_standard_error_of_a_server(tmp_path):
-    """reports on a full record and on failing files are lost, and the status shows the fault"""
+    """If standard error is full, a server's reports on failing files are lost, but its status shows the fault."""
     with full() as file:
         os.mkdir(os.path.join(tmp_path, "can0.log"))
         words = "serve", "--listen", "127.0.0.1:0", "--until-eof", "--out", tmp_path, "can0"
@@ -346,7 +353,8 @@ def test_a_full_standard_error_of_a_server(tmp_path):
 
 
 def test_addresses_of_a_server(server, tmp_path):
-    """a missing folder, an existing file, a port in use, and no address are refused"""
+    """A server refuses an address that is in a missing folder, is an existing file, is a port in use, or is not an
+    address."""
     there = tmp_path / "there"
     there.touch()
     taken = f"{server.host}:{server.port}"

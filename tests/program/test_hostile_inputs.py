@@ -1,9 +1,9 @@
-"""Random and damaged inputs of `canbusd bench` and `audit`.
+"""Tests random and damaged inputs of `canbusd bench` and `audit`.
 
-Inputs are the examples, a record of one of them, and random bytes, each with bytes, words and lines changed,
-doubled, moved or cut. A run may end with status 0, or with status 1, one line of faults that the manual page knows,
-and at most three lines of printable characters after it that begin with two spaces. It may not be ended by a signal,
-run for more than 20 seconds, or write more than it can have been asked for.
+Inputs are the examples, a record, and random bytes. Bytes, words and lines of them are changed, doubled, moved or cut.
+A run may end with status 0. It may also end with status 1 and one fault line that the manual page lists, followed by at
+most three lines of printable characters that begin with two spaces. A run may not be ended by a signal, take more than
+20 seconds, or write more than its input can ask for.
 """
 
 import glob
@@ -18,7 +18,7 @@ FAULTS = re.compile(
     rb"canbusd: (line \d+: bad line|input too long|bad version|entry \d+: wrong|read fault|no memory)\n"
     rb"(  [ -~]{1,300}\n){0,3}"
 )
-# The standard error after a run to the end of its input.
+# The standard error of a run that reads its whole input.
 NOTES = re.compile(rb"(note: session \d+: (bytes outside < and > were skipped|the last message has no >)\n)*")
 RECORD = b"""canbus record 1
 bus 2 always 0000 10 100
@@ -70,7 +70,7 @@ def changed(rng, text):
 
 
 def case(rng, inputs):
-    """Returns the words of a run and its input."""
+    """Returns the command-line words and the input of a random run."""
     if rng.random() < 0.4:
         return ["audit", "/dev/stdin"], changed(rng, RECORD)
     words = ["bench", "--limit", str(rng.choice([1, 3, 50, 5000])), rng.choice(["can0", "can0,can1", "can0,can1,can2"])]
@@ -80,7 +80,7 @@ def case(rng, inputs):
 
 
 def fault_of(program, words, text):
-    """Returns the forbidden behaviour of a run, or None."""
+    """Runs the program; returns the forbidden behaviour of the run, or None."""
     try:
         with tempfile.TemporaryFile() as out:
             done = subprocess.run(
@@ -99,7 +99,8 @@ def fault_of(program, words, text):
 
 
 def test_inputs_of_bench_and_audit(program, rng, cases, tmp_path):
-    """faults are reported in the required form, or there is none; failing inputs are kept"""
+    """The bench and the audit report faults of random inputs in the required form. Inputs for which they do not are
+    kept."""
     inputs = []
     for path in sorted(glob.glob(os.path.join(ROOT, "examples", "*.bench"))):
         with open(path, "rb") as file:

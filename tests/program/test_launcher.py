@@ -1,7 +1,7 @@
-"""The launcher ./canbusd in a copy of the repository whose dist/ fits its sources, and installed.
+"""Tests the launcher ./canbusd in a copy of the repository whose dist/ fits its sources, and the installed launcher.
 
-It is called from other folders, after changes of the sources, and where the copy can't be written. Nothing is ever
-built: the command rt is not on the PATH, or is one that only waits.
+The launcher is called from other folders, after changes of the sources, and in a copy that can't be written. Nothing is
+ever built: the command rt is not on the PATH, or only waits.
 """
 
 import contextlib
@@ -22,7 +22,7 @@ SOURCE = "crates/can_confine/src/counters.rt"
 
 
 class Copy:
-    """A copy of the repository, without built files."""
+    """A copy of the repository without built files, except the program in dist/."""
 
     def __init__(self, request, folder):
         self.folder, self.launcher = folder / "copy", folder / "copy" / "canbusd"
@@ -45,13 +45,13 @@ class Copy:
 
 
 def append(path, text):
-    """Adds a text to a file."""
+    """Appends a text to a file."""
     with open(path, "a", encoding="utf-8") as file:
         file.write(text)
 
 
 def archive_of_the_repository(folder):
-    """Makes copy.tar of the repository, with a program in dist/ that fits its sources."""
+    """Makes copy.tar from the repository, with a program in dist/ that fits its sources."""
     copy = folder / "copy"
     shutil.copytree(ROOT, copy, symlinks=True, ignore=shutil.ignore_patterns(".git", "out", "__pycache__"))
     shutil.copy(program(), copy / "dist" / "canbusd")
@@ -69,7 +69,7 @@ def copy(request, tmp_path):
 
 @pytest.fixture(scope="module")
 def launchers(request, tmp_path_factory):
-    """A launcher in a copy, and an installed launcher, each called through a link."""
+    """Returns links to a launcher in a copy and to an installed launcher."""
     folder = tmp_path_factory.mktemp("launchers")
     copy = Copy(request, folder)
     copy.make("install", f"PREFIX={folder}/a place/y")
@@ -84,7 +84,9 @@ def on_path(folder):
 
 
 def test_calls(copy, tmp_path):
-    """repeated calls work from other folders, through a link and on the PATH; the status is the program's"""
+    """The launcher works in repeated calls, from other folders, through a link and on the PATH, and returns the
+    program's status.
+    """
     assert [copy.status("./canbusd", "--version") for _ in range(2)] == [0, 0]
     assert copy.status("./canbusd", "bench") == 2
     (tmp_path / "bin").mkdir()
@@ -95,7 +97,7 @@ def test_calls(copy, tmp_path):
 
 
 def test_changed_source(copy):
-    """a program of other sources is not run, whatever the time of the changed file"""
+    """A program that was built from other sources is not run, whatever the time of the changed file."""
     source = copy.folder / SOURCE
     text = source.read_text()
     assert copy.status("./canbusd", "--version") == 0
@@ -110,7 +112,7 @@ def test_changed_source(copy):
 
 @pytest.mark.skipif(not shutil.which("git"), reason="no git")
 def test_sources_after_those_of_dist(copy):
-    """if later commits changed the sources, the displayed command restores the sources that dist/ fits"""
+    """If later commits changed the sources, the launcher shows a command that restores the sources that dist/ fits."""
     commit = ["git", "-c", "user.name=n", "-c", "user.email=n@n.example", "commit", "-q", "-m"]
     for words in (["git", "init", "-q"], ["git", "add", "dist", "crates", "crates.txt"], [*commit, "dist"]):
         assert copy.status(*words) == 0, words
@@ -123,7 +125,7 @@ def test_sources_after_those_of_dist(copy):
 
 
 def test_interrupted_build(copy, tmp_path):
-    """a message before the build says how to stop it, and Ctrl-C ends all of it without a further word"""
+    """A message before the build says how to stop it, and Ctrl-C ends all its processes without another message."""
     (tmp_path / "rt").write_text("#!/bin/sh\n: >$HOME/begun\nexec sleep 600\n")
     (tmp_path / "rt").chmod(0o755)
     (copy.folder / SOURCE).write_text("// a change\n")
@@ -150,7 +152,7 @@ def test_definitions_taken_away(copy):
 
 
 def test_few_file_descriptors(copy):
-    """the launcher reports this, and does not mistake the program for a program of other sources"""
+    """The launcher reports that it has too few file descriptors, and does not claim that the program has other sources."""
     for files in range(8, 24):
         shutil.rmtree(copy.folder / "crates" / "canbusd" / "out", ignore_errors=True)
         done = copy.run("bash", "-c", f"ulimit -n {files}; exec ./canbusd --version")
@@ -161,7 +163,7 @@ def test_few_file_descriptors(copy):
 
 
 def test_file_past_its_limit(copy):
-    """it is a write fault, and no end by SIGXFSZ"""
+    """A file that would exceed its size limit is reported as a write fault, and SIGXFSZ does not end the program."""
     assert copy.status("./canbusd", "--version") == 0
     record = copy.folder.parent / "run.rec"
     done = copy.run("bash", "-c", f"ulimit -f 0; printf '' | ./canbusd bench --record '{record}' can0")
@@ -169,7 +171,8 @@ def test_file_past_its_limit(copy):
     assert not record.exists()
 
 
-# A file of a crate outside the program, a file of a proof, and the list of crates with a further crate.
+# Texts to append to files that are not part of the program: files of another crate, a file of a proof, a new .edit
+# file, and a new crate in the list of crates.
 OTHERS = {
     "crates/can_audit/src/lib.rt": "// a remark\n",
     "crates/can_audit/specs/Lib.antt": "-- a remark\n",
@@ -177,7 +180,8 @@ OTHERS = {
     "crates/can_confine/wrong/new.edit": "",
     "crates.txt": "# A remark.\ncan_new: can_bus canbusd\n",
 }
-# A file of the program, a definition of the program, and a line of one of its crates.
+# Texts to append to files of the program: a source file, a definition, a new definition, and a line of one of its
+# crates.
 OWN = {
     "crates/can_frame/src/lib.rt": "// a remark\n",
     "crates/can_frame/specs/Lib.antt": "-- a remark\n",
@@ -188,7 +192,8 @@ OWN = {
 
 @pytest.mark.parametrize("file", OTHERS)
 def test_what_makes_no_other_program(copy, file):
-    """this holds whether or not the program was searched before"""
+    """If a file outside the program changes, the program still fits its sources, both for the launcher and for a new
+    search."""
     assert copy.status("./canbusd", "--version") == 0
     append(copy.folder / file, OTHERS[file])
     assert copy.status("./canbusd", "--version") == 0
@@ -203,7 +208,7 @@ def test_what_makes_another_program(copy, file):
 
 
 def test_crates_of_the_program(copy):
-    """the list has the program's own crate, its dependencies, and their dependencies"""
+    """The list of crates has the program's own crate, its dependencies, and their dependencies."""
     listed = copy.run("scripts/program", "crates").stdout.split()
     assert listed[-1] == "canbusd" and {"can_frame", "can_bus", "can_server"} < set(listed)
     assert not {"can_audit", "hex", "clap"} & set(listed)
@@ -217,7 +222,7 @@ def test_damaged_program(copy):
 
 @pytest.mark.skipif(os.geteuid() == 0, reason="root may write everywhere")
 def test_folder_that_cannot_be_written(copy, tmp_path):
-    """the user's cache notes which program fits"""
+    """If the folder can't be written, the launcher notes in the user's cache which program fits."""
     copy.run("chmod", "-R", "a-w", copy.folder)
     try:
         assert copy.status("./canbusd", "--version") == 0
@@ -231,7 +236,7 @@ def files_in(folder):
 
 
 def test_installed(copy, tmp_path):
-    """the program works by its path, through a link and on the PATH; after uninstalling nothing remains"""
+    """An installed program works by its path, through a link and on the PATH. After it is uninstalled nothing remains."""
     place = tmp_path / "a place" / "y"
     copy.make("install", f"PREFIX={place}")
     launcher = place / "bin" / "canbusd"
@@ -245,7 +250,8 @@ def test_installed(copy, tmp_path):
 
 
 def test_installed_off_the_path(copy, tmp_path):
-    """commands of the package find the program, unless CANBUSD names another one"""
+    """Installed commands of the package find the program even if it is not on the PATH, unless CANBUSD names another
+    program."""
     place = tmp_path / "a place" / "y"
     copy.make("install", f"PREFIX={place}")
     record = tmp_path / "run.rec"
@@ -260,7 +266,9 @@ def test_installed_off_the_path(copy, tmp_path):
 
 
 def test_installed_in_a_folder_of_the_user(copy, tmp_path):
-    """make install prints the PYTHONPATH that python3 needs, and nothing if it is set; ~ is the user's folder"""
+    """make install prints the PYTHONPATH that python3 needs, and nothing if it is set already. In PREFIX, ~ is the
+    user's folder.
+    """
     done = copy.run("make", "-s", "install", "PREFIX=~/a place")
     assert (done.returncode, done.stderr) == (0, ""), done
     assert (tmp_path / "a place" / "bin" / "canbusd").exists()
@@ -286,13 +294,13 @@ JOINED = "  names of a bus are joined by commas, without spaces: can0,can1\n"
         (["--listen", "127.0.0.1:99999", "can0"], LISTEN),
         (["--out", "nosuchdir", "can0"], "  --out is a folder that exists: mkdir 'nosuchdir'\n"),
         (["--out=nosuchdir", "can0"], "  --out is a folder that exists: mkdir 'nosuchdir'\n"),
-        # The program's message is complete.
+        # The launcher adds nothing to these messages of the program.
         (["--listen", "/none/socket", "can0"], ""),
         (["--out", ".", "--listen", "127.0.0.1:0", "can0,can0"], ""),
     ],
 )
 def test_a_word_that_is_refused_is_followed_by_its_cure(launchers, tmp_path, words, said):
-    """the launcher adds a remedy to the program's message"""
+    """The launcher adds a remedy to the program's message about a refused word."""
     for launcher in launchers.values():
         done = subprocess.run(
             [launcher, "serve", *words],
@@ -314,7 +322,7 @@ def test_a_word_that_is_refused_is_followed_by_its_cure(launchers, tmp_path, wor
 
 
 def test_staged(copy, tmp_path):
-    """installed below DESTDIR"""
+    """An installation below DESTDIR prints nothing, works there, and can be removed."""
     words = "PREFIX=/usr", f"DESTDIR={tmp_path}/staged"
     assert copy.run("make", "-s", "install", *words).stdout == ""
     assert copy.status(tmp_path / "staged" / "usr" / "bin" / "canbusd", "--version") == 0
@@ -327,7 +335,7 @@ def to_launcher(number, child, _):
 
 
 def to_all(number, child, _):
-    """Sends a signal to the whole group of processes, as the terminal does."""
+    """Sends a signal to the whole process group, as a terminal does."""
     os.killpg(child.pid, number)
 
 
@@ -339,7 +347,7 @@ def hang_up(_, client):
     client.close()
 
 
-# The ends of a server: its words, the number of its sessions, the action, and the status.
+# The ways in which a server ends: its words, its number of sessions, the action that ends it, and the expected status.
 ENDS = {
     "Ctrl-C": ([], 10, functools.partial(to_all, signal.SIGINT), 0),
     "SIGINT": ([], 10, functools.partial(to_launcher, signal.SIGINT), 0),
@@ -357,7 +365,7 @@ ENDS = {
 
 
 def nobody_in(group):
-    """Returns whether a group of processes has ended."""
+    """Returns whether a process group has no process any more."""
     try:
         os.killpg(group, 0)
     except ProcessLookupError:
@@ -368,14 +376,15 @@ def nobody_in(group):
 @pytest.mark.parametrize("place", ["copy", "installed"])
 @pytest.mark.parametrize("end", ENDS)
 def test_end_of_a_server(launchers, place, end):
-    """it leaves no process, and except after Ctrl-\ the record of its session's `open` and `close`"""
+    """A server that ends leaves no process. Except after SIGQUIT it leaves the record of its session's `open` and
+    `close`."""
     words, sessions, ends, wanted = ENDS[end]
     words = ["--sessions", str(sessions), *words, "can0"]
     with serving(*words, launcher=launchers[place], stdin=subprocess.PIPE) as server:
         client = plain(server, "can0")
         ends(server.child, client)
         assert server.child.wait(WAIT) == wanted, server.said()
-        # After SIGKILL of its launcher the server ends by itself.
+        # If the launcher is killed by SIGKILL, the server ends by itself.
         assert come_true(lambda: nobody_in(server.child.pid)) if end == "SIGKILL" else nobody_in(server.child.pid)
         if end != "Ctrl-\\":
             assert server.child.stdout.read() == "bus can0 entries 2\n"
@@ -385,7 +394,7 @@ def test_end_of_a_server(launchers, place, end):
 
 @pytest.mark.parametrize("place", ["copy", "installed"])
 def test_words_of_serve(launchers, place):
-    """help, and a fault of the command line"""
+    """The launcher returns the program's status for help and for a command line without a bus."""
     for words, status in ((["--help"], 0), ([], 2)):
         done = subprocess.run([launchers[place], "serve", *words], capture_output=True, check=False)
         assert done.returncode == status, done.stderr
@@ -405,7 +414,7 @@ WRONG = [
 
 @pytest.mark.parametrize("words", WRONG)
 def test_wrong_words_of_serve(launchers, words):
-    """the messages are the program's, without the launcher's own option"""
+    """For wrong words the launcher's messages are the program's, and do not show the option that the launcher adds."""
     said = []
     for command in (launchers["copy"], launchers["installed"], program()):
         done = subprocess.run([command, "serve", *words.split()], capture_output=True, text=True, check=False)
@@ -418,7 +427,7 @@ def test_wrong_words_of_serve(launchers, words):
     "words", ["can0 --pace 1", "--pace 1 -- can0", "--pace 1 can0 --", "--pace=1 -- -can0 --until-eof"]
 )
 def test_places_of_words_of_serve(launchers, words):
-    """wherever its options are, it ends cleanly at SIGTERM to its launcher"""
+    """Wherever its options are on the command line, a server ends cleanly when its launcher gets SIGTERM."""
     with serving(*words.split(), launcher=launchers["copy"], stdin=subprocess.PIPE) as server:
         server.child.send_signal(signal.SIGTERM)
         assert server.child.wait(WAIT) == 0, server.said()

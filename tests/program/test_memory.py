@@ -1,12 +1,12 @@
-"""canbusd without memory, which it is refused at one place after the other.
+"""Tests canbusd when it is refused memory, at one place after another.
 
-refuse_memory.c, compiled with cc and loaded with the program, refuses the n-th time that it asks for memory or
-starts a thread: that time only, or that and all later ones; for each n. A bench has to end with `no memory` after
-whole lines of its output, or to say so to a session, and then its output and its record are those of an input that
-lacks that command. An audit replies as ever or says `no memory`. Each call of the libraries, made by
-crates/can_memory_tests where that is built, leaves all as it was and returns the same when it is made again. A
-server refuses memory to one session only: others get their frames, and the audit finds legal what it writes at its
-end. Then the program runs within ever more memory by RLIMIT_AS.
+refuse_memory.c, compiled with cc and preloaded, refuses the n-th request for memory or start of a thread, for each n:
+either only this request, or this one and all later ones. A bench must end with `no memory` after whole lines of its
+output, or report it to a session. In the second case its output and its record are those of an input without the
+refused command. An audit gives its usual reply or says `no memory`. If crates/can_memory_tests is built, it makes each
+call of the libraries: a refused call must change nothing, and return the usual result when it is repeated. A server
+that is refused memory fails only one session: other sessions get their frames, and the record that it writes at its end
+is legal. Finally, the program runs with more and more memory, limited by RLIMIT_AS.
 """
 
 import contextlib
@@ -28,22 +28,22 @@ pytestmark = pytest.mark.skipif(not shutil.which("cc"), reason="no C compiler: c
 needs_live = pytest.mark.skipif("not writes_live()", reason="the program is older than `serve --record`")
 
 FOREVER = 2**64 - 1
-# None of the tested runs asks for memory more often than this, nor needs more bytes than this.
+# No tested run asks for memory more often than this or needs more bytes than this.
 MOST_PLACES, MOST_BYTES = 5000, 1 << 34
-# A program that calls the library functions that take memory.
+# A program that calls each library function that needs memory.
 CALLS = os.path.join(ROOT, "crates", "can_memory_tests", "out", "can_memory_tests")
 NO_MEMORY = "canbusd: no memory\n"
-# The standard error after refused memory: the fault, and perhaps a remedy.
+# The standard error of a program that was refused memory: the fault, and perhaps a remedy.
 REFUSED = re.compile(r"canbusd: no memory\n(  [ -~]+\n)*")
 SAYS_NO_MEMORY = "< error no memory >"
-# A command without effect, in place of a command that was refused memory.
+# A command without effect, which replaces a command that is refused memory.
 UNKNOWN, SAYS_UNKNOWN = "< nothing >", "< error unknown command >"
 TAKES_MEMORY = re.compile(r"< *(?:open|rawmode|filter)\b[^<>]*>")
 
 
 @pytest.fixture(scope="module")
 def library(request):
-    """Compiles the library that refuses memory."""
+    """Compiles the library that refuses memory; returns its path."""
     words = ["cc", "-O2", "-shared", "-fPIC", os.path.join(ROOT, "tests", "helpers", "refuse_memory.c"), "-o"]
     name = "refuse_memory.so"
     return made_once(request, "refusing", lambda folder: subprocess.run([*words, folder / name], check=True)) / name
@@ -51,12 +51,12 @@ def library(request):
 
 @pytest.fixture
 def refusing(library, tmp_path):
-    """Returns the environment in which the program is refused memory."""
+    """Returns an environment in which the program can be refused memory."""
     return Refusing(library, tmp_path)
 
 
 class Refusing:
-    """An environment in which a program is refused memory, and a folder in which the program runs."""
+    """The environment and the folder of a program that can be refused memory."""
 
     def __init__(self, library, folder):
         self.folder, self.server, plan = folder, None, folder / "plan"
@@ -66,17 +66,17 @@ class Refusing:
         self.environment = {**os.environ, "LD_PRELOAD": str(library), "REFUSE": str(plan)}
 
     def asked(self):
-        """The number of times that the program has asked for memory."""
+        """Returns how often the program has asked for memory."""
         return struct.unpack("=Q", self.plan[:8])[0]
 
     def refuse(self, first, last, asked=0):
-        """Refuses memory from the first to the last time, after `asked` earlier times."""
+        """Sets the count of requests to `asked`, and refuses those from number `first` to number `last`."""
         self.plan[8:] = struct.pack("=2Q", 1, 0)
         self.plan[:8] = struct.pack("=Q", asked)
         self.plan[8:] = struct.pack("=2Q", first, last)
 
     def refuse_soon(self, first, last):
-        """Refuses memory from the first to the last time, counted from now on; returns the number of the first."""
+        """Refuses the requests from `first` to `last`, counted from now on; returns the total number of the first one."""
         asked = self.settled()
         self.plan[8:] = struct.pack("=2Q", asked + first, min(asked + last, FOREVER))
         return asked + first
@@ -85,13 +85,12 @@ class Refusing:
         self.plan[8:] = struct.pack("=2Q", 1, 0)
 
     def settled(self):
-        """Returns the number of the server's requests for memory, after they have stopped."""
+        """Waits until the server rests; returns how often it has asked for memory."""
         assert come_true(self.server.rests), "the server does not come to rest"
         return self.asked()
 
     def run(self, words, text="", first=1, last=0, most=resource.RLIM_INFINITY, other=None):
-        """Runs the program in a new folder with this input and this much memory; returns its result, and the number of
-        its requests."""
+        """Runs the program with this input and this much memory; returns its result, and how often it asked for memory."""
         self.refuse(first, last)
         done = subprocess.run(
             [other or program(), *words],
@@ -102,7 +101,7 @@ class Refusing:
             check=False,
             cwd=self.folder,
             env=self.environment,
-            # With a preexec function Python copies itself for each run.
+            # If there is a preexec function, Python copies itself for each run.
             preexec_fn=None if most == resource.RLIM_INFINITY else within(most),
         )
         assert done.returncode in (0, 1, 2), f"status {done.returncode} at {first}: {done.stderr}"
@@ -110,23 +109,23 @@ class Refusing:
 
 
 def within(most):
-    """Limits a child to this many bytes."""
+    """Returns a function that limits the memory of a child process to this many bytes."""
     return lambda: resource.setrlimit(resource.RLIMIT_AS, (most, most))
 
 
 def places():
-    """Yields each place where the program asks for memory, until the loop is left."""
+    """Yields the number of each request for memory, until the caller leaves its loop."""
     yield from range(1, MOST_PLACES)
     pytest.fail(f"it asks for memory more than {MOST_PLACES} times")
 
 
 def windows(asked):
-    """Yields each time twice: refused only then, and from then on."""
+    """Returns two ranges for each request: only this request, and this request and all later ones."""
     return [(first, last) for first in range(1, asked + 1) for last in (first, FOREVER)]
 
 
 class Bench:
-    """A bench with its input, and its results with ample memory."""
+    """A bench with its input, and its results if it gets all its memory."""
 
     def __init__(self, refusing, words, text):
         self.words, self.text, self.refusing = words, text, refusing
@@ -134,19 +133,19 @@ class Bench:
         self.line = ["bench", "--record", "run.rec", *words]
         assert "error unknown command" not in self.runs(text)[0], "this input has unknown commands"
         self.commands = [found.span() for found in TAKES_MEMORY.finditer(text)]
-        # The answers of the program if one of these commands is refused memory.
+        # The results of the program if one of these commands is refused memory.
         self.refused = {self.refuses(command) for command in self.commands}
         self.ample = self.runs(text)
 
     def runs(self, text):
-        """Returns output and record, with ample memory."""
+        """Runs the bench with all its memory; returns its output, record, status and standard error."""
         with contextlib.suppress(FileNotFoundError):
             os.remove(self.record)
         done, self.asked = self.refusing.run(self.line, text)
         return done.stdout, self.written(), done.returncode, done.stderr
 
     def refuses(self, command):
-        """Returns the results if the command has no effect and the reply reports refused memory."""
+        """Returns the results if this command has no effect and its reply reports refused memory."""
         begin, end = command
         output, *others = self.runs(self.text[:begin] + UNKNOWN + self.text[end:])
         return output.replace(SAYS_UNKNOWN, SAYS_NO_MEMORY), *others
@@ -158,7 +157,7 @@ class Bench:
         return None
 
     def try_at(self, first, last, most=resource.RLIM_INFINITY):
-        """Refuses the bench memory; returns whether a session reported this, or the program, or nobody."""
+        """Refuses memory to the bench; returns whether a session, the program or nobody reported it."""
         with contextlib.suppress(FileNotFoundError):
             os.remove(self.record)
         done, _ = self.refusing.run(self.line, self.text, first, last, most)
@@ -170,11 +169,12 @@ class Bench:
         assert done.returncode == 1, f"at {first}: {did}"
         is_reported = REFUSED.fullmatch(done.stderr) or done.stderr == self.ample[3].splitlines(True)[0]
         assert is_reported, f"at {first}: {done.stderr}"
-        # After the first command that was refused for ever, others depend on it.
+        # If all later requests are refused too, the output may differ after the first refused command, because later
+        # commands depend on it.
         output = done.stdout.split(SAYS_NO_MEMORY)[0] if last == FOREVER else done.stdout
         assert self.ample[0].startswith(output), f"at {first}: {done.stdout}"
         assert done.stdout == "" or done.stdout.endswith("\n"), f"a line is cut at {first}: {done.stdout}"
-        # If the record's own memory was refused, its file may be partial.
+        # If the record's own memory was refused, the file may have only part of the record.
         assert (
             last == FOREVER or not did[1] or self.ample[1].startswith(did[1]) and did[1] != self.ample[1]
         ), f"at {first}: another record: {did[1]}"
@@ -182,7 +182,7 @@ class Bench:
 
 
 def try_everywhere(bench):
-    """Refuses a bench memory at each place; returns the number of reports by reporter."""
+    """Refuses memory to a bench at each place; returns how often each outcome occurred."""
     outcomes = {}
     for first, last in windows(bench.asked):
         how = bench.try_at(first, last)
@@ -191,7 +191,7 @@ def try_everywhere(bench):
 
 
 def summed(runs):
-    """Returns the sums of the counts of several runs."""
+    """Returns the summed counts of several runs as a text."""
     sums = {}
     for outcomes in runs:
         for how, count in outcomes.items():
@@ -199,8 +199,8 @@ def summed(runs):
     return ", ".join(f"{count} {how}" for how, count in sorted(sums.items()))
 
 
-# Each command that takes memory, between commands that show whether it was carried out; a long piece, and an unknown
-# name.
+# Each command that takes memory, and between them commands that show whether it was carried out. There are also a long
+# message and an unknown name.
 COMMANDS = (
     """session 1
 session 2
@@ -230,7 +230,7 @@ end 3
 
 
 def example(path):
-    """Returns the words and the input of an example."""
+    """Returns the command-line words and the input of an example."""
     with open(path, encoding="utf-8") as file:
         text = file.read()
     words = re.search(r"\./canbusd bench (.*) < examples/", text)[1]
@@ -239,7 +239,9 @@ def example(path):
 
 @pytest.mark.slow
 def test_a_bench_without_memory(refusing):
-    """this is tested with each example, and with an input that has each command that takes memory"""
+    """A bench that is refused memory reports it correctly, for each example and for an input with each command that
+    takes memory.
+    """
     inputs = [example(path) for path in sorted(glob.glob(os.path.join(ROOT, "examples", "*.bench")))]
     inputs += [(["can0,can1"], COMMANDS), (["--report", "--ack", "peers", "--limit", "12", "can0,can1"], COMMANDS)]
     runs = [try_everywhere(Bench(refusing, words, text)) for words, text in inputs]
@@ -248,7 +250,8 @@ def test_a_bench_without_memory(refusing):
 
 @pytest.mark.slow
 def test_faults_without_memory(refusing):
-    """for refused lines, scripts, names and words, the first line is reported, or no memory"""
+    """For wrong lines, scripts, names and words a program without memory reports `no memory` or at least the first line
+    of the usual report."""
     folder = refusing.folder
     scripts = {"line": "0 good\nx\n", "name": "5 local crc can2\n", "twice": "5 good\n5 good\n"}
     for name, text in scripts.items():
@@ -299,7 +302,8 @@ def test_faults_without_memory(refusing):
     ],
 )
 def test_an_audit_without_memory(refusing, old, new):
-    """this is tested with a legal record, a wrong entry, a bad line and another version"""
+    """An audit that is refused memory says `no memory` or at least the first line of its usual report, for legal and
+    for damaged records."""
     bench = Bench(refusing, ["can0,can1"], COMMANDS)
     legal = bench.ample[1]
     record = re.sub(old, new, legal, count=1)
@@ -327,7 +331,7 @@ def test_an_audit_without_memory(refusing, old, new):
 
 @pytest.mark.parametrize("part, options", [("put", []), ("rule", ["--faults", "can0,can1@run.faults"])])
 def test_events_without_memory(refusing, part, options):
-    """an audit's events stay the same, or the fault follows complete lines"""
+    """An audit that is refused memory writes its usual events, or only complete lines before it reports the fault."""
     Bench(refusing, ["can0,can1"], COMMANDS)
     (refusing.folder / "run.faults").write_text("next 1 good\nat 1 always good\nat 1 next 1 lastbit\n")
     words = ["audit", "--events", *options, "run.rec"]
@@ -343,7 +347,7 @@ def test_events_without_memory(refusing, part, options):
 
 
 def crosses(server, source, target):
-    """Returns whether a frame crosses a bus, whose driver may have been refused memory."""
+    """Returns whether a frame crosses a bus. It does not if the driver of the bus was refused memory."""
     with contextlib.closing(plain(server, source)) as sender, contextlib.closing(plain(server, target)) as receiver:
         receiver.socket.settimeout(1)
         sender.write("< send 7FF 0 >")
@@ -362,8 +366,7 @@ def refused_server(refusing, *words):
 
 @pytest.mark.skipif(not os.path.exists(CALLS), reason="not built: rt run in crates/can_memory_tests")
 def test_calls_without_memory(refusing):
-    """each call of the libraries is repeated after a refusal: the refused call changed nothing, and the repeated call
-    returns the same"""
+    """A call of the libraries that is refused memory changes nothing. It returns the usual result when it is repeated."""
     ample, asked = refusing.run([], other=CALLS)
     assert ample.returncode == 0 and ample.stdout.count(": as ever\n") == ample.stdout.count("\n") > 0, f"{ample}"
     for place in range(1, asked + 1):
@@ -371,7 +374,7 @@ def test_calls_without_memory(refusing):
         assert (done.returncode, done.stdout, done.stderr) == (0, ample.stdout, ""), f"at {place}: {done}"
 
 
-# A client's messages, each with its answer with ample memory; None means several texts in any order.
+# A client's messages, each with its answer if the server gets all its memory. None means several texts in any order.
 SAYS = [
     ("< open can2 >", "< ok >"),
     ("< rawmode >", "< ok >"),
@@ -386,7 +389,8 @@ SAYS = [
 
 
 def converse(server, refusing):
-    """Returns the answers to all messages of a client. After `no memory` it asks again, with memory."""
+    """Sends these messages, and repeats with memory each message that is answered by `no memory`. Returns what happened
+    to the session."""
     with contextlib.closing(Plain(server)) as client:
         try:
             greeting = client.text()
@@ -414,7 +418,7 @@ def converse(server, refusing):
 
 
 def test_sessions_without_memory(refusing):
-    """a session that is refused memory ends without the others, or gets a message"""
+    """A session that is refused memory ends or gets a message, and other sessions continue."""
     outcomes, numbers, drivers, is_over = {}, places(), 0, False
     while not is_over:
         refusing.stop()
@@ -441,7 +445,7 @@ def test_sessions_without_memory(refusing):
 
 
 def hears(sender, listener):
-    """Returns what happens to a listener that receives frames, if one call may be refused memory."""
+    """Sends frames to a listener while one request for memory may be refused; returns what happened."""
     listener.socket.settimeout(1)
     outcome = "as ever"
     for number in range(40):
@@ -465,7 +469,7 @@ def hears(sender, listener):
 
 
 def test_deliveries_without_memory(refusing):
-    """a receive takes no memory: a listener gets its frames, whatever is refused to others"""
+    """A listener gets its frames even if other sessions are refused memory, because a receive takes no memory."""
     outcomes = {}
     for place in places():
         refusing.stop()
@@ -491,15 +495,15 @@ def test_deliveries_without_memory(refusing):
 
 
 def why_not(fault, others=()):
-    """Returns the reason why a server does not listen, if its report has the right form: these reasons are accepted
-    too."""
+    """Returns the reason why a server does not listen, and checks the form of its report. `others` are further reasons
+    that are accepted."""
     reported = re.fullmatch(rf"canbusd: ({'|'.join(['no memory', 'cannot listen', *others])})(\n  [ -~]*)*", str(fault))
     assert reported, f"{fault}"
     return reported[1]
 
 
 def greets(server):
-    """Returns whether a listening server serves a session."""
+    """Returns whether a server that listens has served a session, or had no memory for it."""
     with contextlib.suppress(ConnectionError), contextlib.closing(Plain(server)) as client:
         if client.text() == "< hi >":
             return "served"
@@ -507,9 +511,9 @@ def greets(server):
 
 
 def refused_at_each_place(tried):
-    """Returns the results of tries in which memory is refused at one place or from there on, until no try asks for
-    memory there. A try gets the place and the last refused request, and returns its result, and whether it made fewer
-    requests."""
+    """Refuses memory at one request, and from that request on, until no try makes that many requests; prints how often
+    each outcome occurred. `tried` gets the first and the last refused request. It returns its outcome, and whether it
+    made fewer requests."""
     outcomes = {}
     for place in places():
         for last in (FOREVER, place):
@@ -521,8 +525,8 @@ def refused_at_each_place(tried):
 
 
 def start(refusing, place, last, ended, *words, reasons=()):
-    """Returns the result of a server whose start is refused memory: the reason why it does not listen, or the result of
-    `ended`; and whether its start makes fewer requests."""
+    """Starts a server that is refused memory. Returns the reason why it does not listen, or the result of `ended`.
+    Returns also whether the start made fewer than `place` requests."""
     refusing.refuse(place, last)
     try:
         with refused_server(refusing, *words) as server:
@@ -534,7 +538,7 @@ def start(refusing, place, last, ended, *words, reasons=()):
 
 
 def test_a_start_without_memory(refusing):
-    """a server that is refused memory reports this and ends, or serves"""
+    """A server that is refused memory at its start reports this and ends, or serves."""
 
     def ended(server, how):
         status, _ = server.finish()
@@ -546,7 +550,7 @@ def test_a_start_without_memory(refusing):
 
 
 def test_an_end_without_memory(refusing):
-    """a file that is refused memory is reported; the other files are complete"""
+    """If a file is refused memory at the end of a server, this is reported, and the other files are complete."""
 
     def tried(place, last):
         with refused_server(refusing) as server:
@@ -561,7 +565,7 @@ def test_an_end_without_memory(refusing):
 
 
 def files_at_the_end(server, status, written):
-    """Returns the results for the files of a server."""
+    """Checks the files and the reports of a server that has ended; returns how many files are complete."""
     assert re.fullmatch(r"bus can0 entries \d+\nbus can2 entries 0\n", written), written
     lines = [line for line in server.said().splitlines() if not line.startswith("  ")]
     assert status == (1 if lines else 0) and all(
@@ -580,7 +584,8 @@ def files_at_the_end(server, status, written):
 
 @needs_live
 def test_a_start_of_a_long_run_without_memory(refusing):
-    """a server that writes while it runs reports this and ends, or serves"""
+    """A server that writes its record while it runs, and is refused memory at its start, reports this and ends, or
+    serves."""
 
     def ended(server, how):
         status, written = server.finish()
@@ -593,7 +598,7 @@ def test_a_start_of_a_long_run_without_memory(refusing):
 @needs_live
 @pytest.mark.parametrize("flush", ["0", "60000"])
 def test_a_long_run_without_memory(refusing, flush):
-    """a bus or a file that is refused memory is reported, and no partial record looks complete"""
+    """If a bus or a file is refused memory during a run, this is reported, and no partial record looks complete."""
 
     def tried(place, last):
         with refused_server(refusing, "--record", "live", "--flush", flush) as server:
@@ -611,7 +616,8 @@ def test_a_long_run_without_memory(refusing, flush):
 
 
 def live_files(server, status, written):
-    """Returns the results for the files that a server wrote while it ran."""
+    """Checks the files that a server wrote while it ran; returns how many records are complete, and the server's first
+    report."""
     entries = dict(re.findall(r"^bus (\w+) entries (\d+)$", written, re.M))
     whole = 0
     for name in ("can0", "can2"):
@@ -634,7 +640,7 @@ def live_files(server, status, written):
 
 
 def amounts(first):
-    """Yields ever more bytes, from the first on."""
+    """Yields increasing numbers of bytes, beginning a little above `first`."""
     most = first
     while most < MOST_BYTES:
         most += most // 64
@@ -643,7 +649,7 @@ def amounts(first):
 
 
 def least(words):
-    """Returns the fewest bytes, of these amounts, in which the program can be started."""
+    """Returns the smallest number of bytes in `amounts` with which the program can be started."""
 
     def is_enough(most):
         limited = within(most)
@@ -654,7 +660,8 @@ def least(words):
 
 
 def test_a_bench_within_ever_more_memory(refusing):
-    """the limit is RLIMIT_AS, from the needs of `--version` on"""
+    """A bench with a limit on its memory (RLIMIT_AS) reports `no memory` or works as usual. The limit increases from
+    what `--version` needs."""
     bench, outcomes = Bench(refusing, ["--limit", "200000", "can0,can1"], COMMANDS), {}
     for most in amounts(least(["--version"])):
         how = bench.try_at(1, 0, most)
@@ -665,7 +672,8 @@ def test_a_bench_within_ever_more_memory(refusing):
 
 
 def test_a_server_within_ever_more_memory():
-    """the limit is RLIMIT_AS; each time ten sessions connect, some of which may be refused"""
+    """A server with an increasing limit on its memory (RLIMIT_AS) serves all or some of ten sessions, or reports `no
+    memory`."""
     outcomes = {}
     for most in amounts(least(["--version"])):
         try:

@@ -1,7 +1,8 @@
-"""`canbusd audit --events`: its exact output for records whose events follow from the rules.
+"""Tests the exact output of `canbusd audit --events` for records whose events follow from the rules.
 
-Each kind of part, records that are cut off, wrong entries and lines, several files, a record that is followed through a
-pipe, and a writer that fails. test_memory.py refuses it memory.
+There are tests of each kind of part, of records that are cut off, of wrong entries and lines, of several files, of a
+record that is read through a pipe while it grows, and of a writer that fails. test_memory.py refuses memory to this
+command.
 """
 
 import os
@@ -12,8 +13,8 @@ import pytest
 from commands import run_line
 from serving import WAIT, program
 
-# Two interfaces that report faults. Socket 0 asks for error message frames and has room; socket 1, at interface 1, has
-# room for one item; socket 2 is there too, and asks for no error message frames.
+# Two interfaces that report faults. Sockets 0 and 1 ask for error message frames. Socket 0 has plenty of room, and
+# socket 1, at interface 1, has room for one item. Socket 2, also at interface 1, asks for no error message frames.
 RECORD = """canbus record 1
 bus 2 always 0003 10 100
 open 0 256 = socket 0
@@ -28,8 +29,8 @@ receive 2 = data 0 0 123#01FF 0.000002
 attempt 0.000003 good = idle
 end 10
 """
-# The transmitter counts 8, the receiver 1; the good attempt takes 1 off each. Socket 1 has room for one item, the error
-# message frame of the first attempt.
+# The first attempt raises the transmitter's count to 8 and the receiver's count to 1; the good attempt lowers each by
+# 1. Its error message frame takes the only place in socket 1.
 FAULT = "; counts 0 8 0; counts 1 0 1; put 0:20000088#0000810A00000000 1:20000088#0000040000000000"
 DONE = "; counts 0 7 0; counts 1 0 0; put 2; dropped 1:1"
 EVENTS = (
@@ -37,15 +38,16 @@ EVENTS = (
     .replace("destroyed 0000 0000\n", f"destroyed 0000 0000{FAULT}\n")
     .replace("done 0002 0000\n", f"done 0002 0000{DONE}\n")
 )
-# The same at 500,000 bits a second. To its last data bit 123#01FF has 35 bits and 3 stuff bits; after the bit error
-# follow a flag of 6 bits, 6 of the other one's, a delimiter of 8 and an intermission of 3. With 15 bits of CRC, 2 stuff
-# bits and 10 bits to the end of frame it has 65 bits, and the intermission follows a frame that is done.
+# The same events at 500,000 bit/s. Up to its last data bit, 123#01FF has 35 bits and 3 stuff bits. The bit error is
+# followed by an error flag of 6 bits, 6 bits of the other interface's flag, a delimiter of 8 bits and an intermission
+# of 3 bits. A complete frame also has 15 bits of CRC, 2 stuff bits and 10 bits up to the end of frame, 65 bits in all,
+# and an intermission after it.
 TIMED = EVENTS.replace(f"{FAULT}\n", f"{FAULT}; wire 130000 122000 65 0\n").replace(
     f"{DONE}\n", f"{DONE}; wire 130000 136000 65 0\n"
 )
-# An FD frame with 8 bytes 00 and the bit rate switch: 17 bits to its BRS bit and 10 after its CRC at the nominal bit
-# rate, and at the other one ESI, 4 bits of length, 64 of data, 13 stuff bits, and 27 of stuff count, CRC and fixed stuff
-# bits.
+# An FD frame with 8 bytes 00 and the bit rate switch. At the nominal bit rate it has 17 bits up to its BRS bit and 10
+# bits after its CRC. At the other bit rate it has ESI, 4 bits of length, 64 bits of data, 13 stuff bits, and 27 bits of
+# stuff count, CRC and fixed stuff bits.
 SWITCHED = """canbus record 5
 bus 1 always 0000 10 100 0
 open 0 256 = socket 0
@@ -54,8 +56,8 @@ send 0 124##10000000000000000 = number 0
 attempt 0.000001 good = tried 0 0 124##10000000000000000 done 0000 0000
 end 4
 """
-# After 31 destroyed attempts a transmitter has counted 248, and the next attempt takes it to bus off; its waiting
-# frames are lost. A call brings it back.
+# After 31 destroyed attempts a transmitter's count is 248. The next attempt takes its interface to bus off, and the
+# waiting frames are lost. The call `restart` ends bus off.
 FAULTS = "".join(
     f"attempt 0.0000{number:02} global-bit = tried 0 0 123# destroyed 0000 0000\n" for number in range(1, 32)
 )
@@ -73,7 +75,7 @@ end 38
 
 
 def audited(record, folder, *options):
-    """Returns the status, the output and the errors of an audit with events."""
+    """Audits this record with events; returns the status, the output and the errors."""
     (folder / "run.rec").write_text(record)
     return run_line(" ".join(["audit", "--events", *options, "run.rec"]), cwd=folder)
 
@@ -84,13 +86,13 @@ def front(text, lines):
 
 
 def test_each_kind_of_part(tmp_path):
-    """the parts are counts, queued items, and items without room"""
+    """Event lines have parts for counts, for queued items, and for items without room."""
     assert audited(RECORD, tmp_path) == (0, EVENTS, "")
     assert audited(RECORD, tmp_path, "--cut") == (0, EVENTS, "")
 
 
 def test_what_attempts_take_of_the_wire(tmp_path):
-    """with bit rates the time comes after all other parts, for attempts with a frame; nothing else changes"""
+    """With bit rates, the line of each attempt with a frame ends with its time, and nothing else changes."""
     status, written, errors = audited(RECORD, tmp_path, "--bitrate", "500000")
     assert (status, errors) == (0, "") and written == TIMED
     assert audited(RECORD, tmp_path, "--cut", "--bitrate", "500000", "--dbitrate", "2000000") == (0, TIMED, "")
@@ -99,7 +101,7 @@ def test_what_attempts_take_of_the_wire(tmp_path):
 
 
 def test_both_bit_rates(tmp_path):
-    """an FD frame that switches has bits at both rates; a third of a nanosecond is rounded up"""
+    """An FD frame that switches bit rates has bits at both rates. A third of a nanosecond is rounded up."""
     status, written, errors = audited(SWITCHED, tmp_path, "--bitrate", "500000", "--dbitrate", "2000000")
     assert (status, errors) == (0, "") and written.splitlines()[-2].endswith(
         "done 0000 0000; wire 108500 114500 27 109"
@@ -111,7 +113,7 @@ def test_both_bit_rates(tmp_path):
 
 
 def test_bus_off(tmp_path):
-    """the lines have losses, error message frames for bus off, and the counts after a restart"""
+    """The events show lost frames, error message frames for bus off, and the counts after a restart."""
     status, written, errors = audited(BUS_OFF, tmp_path)
     lines = written.splitlines()
     assert (status, errors) == (0, "") and lines[:6] == ["canbus events 1", *BUS_OFF.splitlines()[1:6]]
@@ -125,7 +127,7 @@ def test_bus_off(tmp_path):
 
 
 def test_a_record_that_is_cut_off(tmp_path):
-    """the record is cut off after an entry, and within a line"""
+    """The events of a record that is cut off, after an entry or within a line, end with a `cut` line."""
     assert audited(front(RECORD, 9), tmp_path, "--cut") == (0, front(EVENTS, 9) + "cut 7\n", "")
     note = "note: 13 bytes of a line without its end were not looked at\n"
     torn = front(RECORD, 9) + "attempt 0.000"
@@ -138,22 +140,22 @@ def test_a_record_that_is_cut_off(tmp_path):
     [
         ("done 0002 0000", "done 0000 0000", 9),  # a wrong entry
         ("open 1 1 = socket 1", "open 1 1 = socket 2", 3),
-        ("100\n", "7\n", 9),  # past the limit
+        ("100\n", "7\n", 9),  # more entries than the limit
         ("receive 2 = data", "receive 2 = date", 10),  # an unknown line
         ("bus 2", "bus 17", 0),
         ("record 1", "record 9", 0),
         ("end 10\n", "end 9\n", 12),
-        ("end 10\n", "", 12),  # nothing in place of the end
+        ("end 10\n", "", 12),  # no end line
         ("end 10\n", "end 10\nend 10\n", 12),
         (
             "record 1\nbus 2 always 0003 10 100\n",
             "record 3\nbus 2 always 0003 10 100 0\n",
             12,
-        ),  # version 3 without need
+        ),  # a version that this record does not need
     ],
 )
 def test_before_a_fault(old, new, lines, tmp_path):
-    """the lines before it are written, and the fault is that of an audit without events"""
+    """The events before a fault are written, and the fault is the same as that of an audit without events."""
     record = RECORD.replace(old, new)
     status, written, errors = audited(record, tmp_path)
     assert (status, "", errors) == run_line("audit run.rec", cwd=tmp_path) and status == 1
@@ -162,21 +164,22 @@ def test_before_a_fault(old, new, lines, tmp_path):
 
 
 def test_a_wrong_entry_before_a_wrong_line(tmp_path):
-    """the line is reported, and no event after the entry is written"""
+    """If a malformed line follows a wrong entry, the line is reported, but only the events before the wrong entry are
+    written."""
     record = RECORD.replace("done 0002 0000", "done 0000 0000").replace("receive 2 = data", "receive 2 = date")
     status, written, errors = audited(record, tmp_path)
     assert (status, written) == (1, front(EVENTS, 9)) and errors.startswith("canbusd: line 11: bad line\n")
 
 
 def test_several_files(tmp_path):
-    """several files are one text, even if one ends within a line"""
+    """Several files are audited as one text, even if a file ends within a line."""
     (tmp_path / "a.rec").write_text(RECORD[:333])
     (tmp_path / "b.rec").write_text(RECORD[333:])
     assert run_line("audit --events a.rec b.rec", cwd=tmp_path) == (0, EVENTS, "")
 
 
 def test_a_record_that_is_followed():
-    """the events of lines written to a pipe come before the pipe ends"""
+    """The events of lines that are written to a pipe come before the pipe ends."""
     words = [program(), "audit", "--events", "--cut", "/dev/stdin"]
     pipes = {"stdin": subprocess.PIPE, "stdout": subprocess.PIPE}
     with subprocess.Popen(words, bufsize=0, **pipes) as running:
@@ -191,7 +194,7 @@ def test_a_record_that_is_followed():
 
 
 def test_a_writer_that_fails(tmp_path):
-    """at once: output that was refused is not written later"""
+    """An audit whose output is refused ends at once with a write fault, and does not write the output later."""
     (tmp_path / "run.rec").write_text(RECORD)
     with open("/dev/full", "wb") as full:
         words = [program(), "audit", "--events", "run.rec"]

@@ -1,7 +1,8 @@
-"""`canbusd audit --events --faults`: which rule gave each attempt its verdict.
+"""Tests which rule gave each attempt its verdict, by `canbusd audit --events --faults`.
 
-A run by hand, each thing that decides it; files that are no faults of a run, text for text; and random runs and files beside
-rule_model.py. test_memory.py refuses it memory.
+There are tests of a run by hand, of each property that decides the rule, of the report on each kind of wrong faults
+file, and of random runs and files, which are compared with rule_model.py. test_memory.py refuses memory to this
+command.
 """
 
 import subprocess
@@ -17,8 +18,8 @@ from serving import WAIT, program
 from timed_benches import random_rates, rate_options
 
 NAMES = "ecu,tester"
-# Rules 1 and 2 are there from the start, also where a line of the run comes between them. Rule 3 is given before attempt 3, and
-# ended before attempt 4; so is rule 2. Rule 4 is given before attempt 5, the first one after those that were idle.
+# Rules 1 and 2 apply from the start, although a line of the run is between them. Rule 3 is given before attempt 3.
+# Rules 2 and 3 are ended before attempt 4. Rule 4 is given before attempt 5, the first attempt after two idle ones.
 FAULTS = """# of an afternoon
 next 1 from ecu lastbit
 1 global bit
@@ -35,9 +36,9 @@ send 0 123# = number 0
 send 0 123# = number 1
 send 0 123# = number 2
 """
-# Each attempt with its parts. Rule 2 lets attempt 2 pass, since attempt 0 was rule 1's and attempt 1 the line's; that it is asked
-# before rule 3 shows in attempt 3. In attempt 6 rule 4 says good, and the record does not, so nothing is said; but it is used
-# up then.
+# Each attempt with its parts. Rule 2 skips attempt 2, because rule 1 decided attempt 0 and the numbered line decided
+# attempt 1. Attempt 3 shows that rule 2 is asked before rule 3. In attempt 6 rule 4 says good but the record has
+# another verdict, so the line names no rule; rule 4 is used up all the same.
 ATTEMPTS = """attempt 0.000000 lastbit = tried 0 0 123# lastbit 0002 0000; counts 0 8 0; rule 1
 attempt 0.000001 global-bit = tried 0 0 123# destroyed 0000 0000; counts 0 16 0; counts 1 0 1
 attempt 0.000002 good = tried 0 0 123# done 0002 0000; counts 0 15 0; counts 1 0 0
@@ -51,7 +52,8 @@ attempt 0.000007 good = tried 0 3 124# done 0002 0000; counts 0 12 0; rule 4
 attempt 0.000008 lastbit = tried 0 4 124# lastbit 0002 0000; counts 0 20 0
 attempt 0.000009 good = tried 0 4 124# done 0002 0000; counts 0 19 0
 """
-# The places where the bus took the rules: the script's two after its line, and the others before their attempts.
+# Where the bus accepted the rules: the script's two rules after the line of the bus, and the other rules before their
+# attempts.
 TOLD = {
     "open 0 ": "rule 1 next 1 from ecu lastbit\nrule 2 always id 123 skip 1 good\n",
     "attempt 0.000003 ": "rule 3 next 1 global form\n",
@@ -66,7 +68,7 @@ RECORD = FRONT + "".join(f"{line.partition(';')[0]}\n" for line in ATTEMPTS.spli
 
 
 def audited(folder, faults, *options, names=NAMES, record=RECORD):
-    """Returns the status, the output and the errors of an audit with these faults."""
+    """Audits a record with these faults; returns the status, the output and the errors."""
     (folder / "run.rec").write_text(record)
     (folder / "run.faults").write_text(faults)
     return run_line(" ".join(["audit", "--events", *options, "--faults", f"{names}@run.faults", "run.rec"]), cwd=folder)
@@ -79,7 +81,7 @@ def test_a_run(tmp_path):
 
 
 def test_beside_time_on_the_wire(tmp_path):
-    """the rule comes last"""
+    """The rule is the last part of a line, after the time on the wire."""
     status, written, errors = audited(tmp_path, FAULTS, "--bitrate", "500000")
     assert (status, errors) == (0, "") and rules_of(written) == ["1", "", "", "2", "", "4", "", ""]
     assert "; counts 0 14 0; wire 90000 96000 45 0; rule 2\n" in written
@@ -87,13 +89,13 @@ def test_beside_time_on_the_wire(tmp_path):
 
 def test_a_record_that_is_cut_off(tmp_path):
     front = "".join(RECORD.splitlines(True)[:10])
-    # The record has four attempts: rules from later times come before the last line.
+    # The record has four attempts. Rules for later attempts come before the last line.
     wanted = "".join(EVENTS.splitlines(True)[:13]) + "nofaults\nrule 4 next 2 good\ncut 8\n"
     assert audited(tmp_path, FAULTS, "--cut", record=front) == (0, wanted, "")
 
 
 def test_without_a_rule(tmp_path):
-    """an attempt without a rule has no part; a rule that was taken has its line"""
+    """The line of an attempt without a rule has no part for it, and each accepted rule has a line."""
     nothing = "".join(f"{line.partition('; rule')[0]}\n" for line in PLAIN.splitlines())
     for faults in ("", "1 global bit\n"):
         assert audited(tmp_path, faults) == (0, nothing, "")
@@ -115,7 +117,7 @@ def test_without_a_rule(tmp_path):
     ],
 )
 def test_words_of_a_rule(tmp_path, rule, words):
-    """a rule has as few words as possible, with names in the order of the bus"""
+    """A rule is written with as few words as possible, and with names in the order of the bus."""
     status, written, errors = audited(tmp_path, rule)
     assert (status, errors) == (0, "") and written.splitlines()[2] == f"rule 1 {words}"
     assert audited(tmp_path, words)[1] == written
@@ -124,14 +126,14 @@ def test_words_of_a_rule(tmp_path, rule, words):
 @pytest.mark.parametrize(
     "faults, rules",
     [
-        # The first rule that matches the sender and the frame decides. The attempts 0, 1 and 6 match no rule with
-        # `good`.
+        # The first rule that matches the sender and the frame decides. Attempts 0, 1 and 6 match no rule with `good`.
         ("always good\nalways good", ["1", "1", "1", "1", "1"]),
         ("always from tester good\nalways from tester,ecu good", ["2", "2", "2", "2", "2"]),
         ("always id 124 good\nalways good", ["2", "2", "2", "1", "1"]),
-        # The first rule skips attempts 0 to 2, and of these the second rule skips attempt 0.
+        # The first rule skips attempts 0 to 2. The second rule decides attempts 1 and 2, and skips only attempt 0.
         ("always skip 3 good\nalways skip 1 good", ["2", "1", "1", "1", "1"]),
-        # A numbered line, and a further line before the same attempt: they are in order.
+        # A numbered line decides its attempt before any rule, and rules that are given before the same attempt keep
+        # their order.
         ("3 good\nalways good\nat 4 next 1 good", ["1", "", "1", "1", "1"]),
         ("at 2 always id 124 good\nat 2 next 2 good\nalways from tester good", ["3", "3", "", "2", "2"]),
     ],
@@ -143,10 +145,10 @@ def test_which_one(tmp_path, faults, rules):
 
 
 def test_64_rules(tmp_path):
-    """a rule that came while 64 were left has no number"""
+    """A rule that was given while 64 rules were left gets no number."""
     full = "next 1 good\n" * 64
     given = "at 0 always lastbit\nat 4 next 9 good\nat 4 next 9 global bit\n"
-    # Rules 1 and 2 are used up by attempts 0 and 1, 3 by attempt 2, 4 by attempt 3, and so on.
+    # Attempts 0 and 1 use up rules 1 and 2, attempt 2 uses up rule 3, attempt 3 uses up rule 4, and so on.
     status, written, errors = audited(tmp_path, full + given)
     assert (status, errors) == (0, "") and rules_of(written) == ["", "", "3", "4", "5", "6", "", "8"]
     status, written, errors = audited(tmp_path, "next 3 good\n" * 64 + "at 8 nofaults\nat 7 nofaults\n")
@@ -157,11 +159,11 @@ def test_64_rules(tmp_path):
         + "at 0 next 9 global form\nat 4 next 1 lastbit\nat 4 always good"
     )
     status, written, errors = audited(tmp_path, late)
-    # Attempts 4 and 5: the first four are used up, so rule 65 is that of line 66 and rule 66 that of line 67.
+    # Before attempt 4 the first four rules are used up, so line 66 gives rule 65 and line 67 gives rule 66.
     assert (status, errors) == (0, "") and rules_of(written) == ["", "", "3", "4", "", "66", "", "66"]
 
 
-# Lines of a file, and the report on the last of them: the fault, and the beginning of its note.
+# Lines of a file, and the report on the last of these lines: the fault, and the beginning of its note.
 WRONG = [
     ("at 1", "bad line", "a line is at N RULE or at N nofaults"),
     ("at x nofaults", "bad line", "a line is at N RULE"),
@@ -190,7 +192,7 @@ WRONG = [
 
 @pytest.mark.parametrize("lines, fault, note", WRONG)
 def test_a_file_that_is_none(tmp_path, lines, fault, note):
-    """no event is written, and the line is shown"""
+    """If a faults file has a wrong line, no event is written, and the line is shown."""
     status, written, errors = audited(tmp_path, f"# faults\n{lines}\n")
     number, last = lines.count("\n") + 2, lines.split("\n")[-1].replace("\r", "?")
     first, shown, why = errors.splitlines()
@@ -199,7 +201,7 @@ def test_a_file_that_is_none(tmp_path, lines, fault, note):
 
 
 def test_lines_of_a_run_are_none_of_a_bus(tmp_path):
-    """a script of a bench has no such lines"""
+    """A script of a bench may not have lines that begin with `at`."""
     (tmp_path / "my.script").write_text("at 0 always good\n")
     status, written, errors = run_line("bench can0@my.script", cwd=tmp_path)
     assert (status, written) == (1, "") and errors.startswith(
@@ -208,7 +210,7 @@ def test_lines_of_a_run_are_none_of_a_bus(tmp_path):
 
 
 def test_names_and_files(tmp_path):
-    """the names are checked first, then the file, and then the record"""
+    """The names are checked first, then the faults file, and then the record."""
     (tmp_path / "my.faults").write_text("x\n")
     for word, fault in (
         ("ecu,ecu@none", "bad bus"),
@@ -223,7 +225,7 @@ def test_names_and_files(tmp_path):
 
 
 def test_names_by_their_places(tmp_path):
-    """a name identifies the sending interface"""
+    """The place of a name in the list says which interface it is."""
     faults = "always from ecu good"
     assert rules_of(audited(tmp_path, faults)[1]) == ["", "", "1", "1", "1", "1", "", "1"]
     assert rules_of(audited(tmp_path, faults, names="tester,ecu")[1]) == [""] * 8
@@ -231,7 +233,8 @@ def test_names_by_their_places(tmp_path):
 
 @pytest.mark.parametrize("names", ["ecu", "ecu,tester,gateway", ",".join(f"can{i}" for i in range(16))])
 def test_names_of_another_bus(tmp_path, names):
-    """they are refused before any output, even if the record has a fault later; but only after line 2 is right"""
+    """A wrong number of names is refused before any output, even if the record has a fault later. A fault in the first
+    two lines is reported instead."""
     count = len(names.split(","))
     wanted = f"canbusd: names of another bus\n  names in --faults: {count}, interfaces of run.rec: 2\n"
     for record in (RECORD, FRONT, FRONT + "x\n", RECORD.replace("idle", "tried"), RECORD + "x"):
@@ -243,7 +246,7 @@ def test_names_of_another_bus(tmp_path, names):
 
 
 def test_names_of_another_bus_in_parts(tmp_path):
-    """they are refused wherever the files of the record end"""
+    """A wrong number of names is refused, wherever the first file of the record ends."""
     (tmp_path / "run.faults").write_text("always good\n")
     for cut in range(1, len(FRONT)):
         (tmp_path / "one.rec").write_text(RECORD[:cut])
@@ -258,7 +261,7 @@ def test_names_of_another_bus_in_parts(tmp_path):
 
 
 def file_of(case, output, source):
-    """Returns the faults of a run as a file: its script, and between its lines the changes during the run."""
+    """Returns the faults of a run as a file: the lines of its script, with the changes during the run between them."""
     later, tried = [], 0
     answers = [line for line in output if line.startswith("1 <")][2:]
     attempts = iter([line for line in output if line.startswith(("tried ", "idle"))])
@@ -279,7 +282,7 @@ def file_of(case, output, source):
 
 
 def runs(maker, count, folder):
-    """Returns this many random runs: the names of each, its record, and the file of its faults."""
+    """Yields this many random runs: the names, the record, and the text of the faults of each."""
     while count:
         case = maker.case()
         case.write_to(folder)
@@ -287,7 +290,7 @@ def runs(maker, count, folder):
         done = subprocess.run(
             words, input=case.text.encode(), cwd=folder, capture_output=True, timeout=WAIT, check=False
         )
-        # A line that gives one rule too many is a fault of the bench.
+        # A run in which a line gives one rule too many ends with a fault, and is left out.
         if done.returncode == 0:
             yield case.names, (folder / RECORD_FILE).read_bytes(), file_of(
                 case, done.stdout.decode().splitlines(), maker.random
@@ -296,7 +299,7 @@ def runs(maker, count, folder):
 
 
 def events_with(data, names, faults, folder, *options):
-    """Returns the program's output for a record with these faults."""
+    """Returns the program's events for a record with these faults."""
     (folder / "run.faults").write_text(faults)
     words = [program(), "audit", "--events", *options, "--faults", f"{','.join(names)}@run.faults", "/dev/stdin"]
     done = subprocess.run(words, input=data, cwd=folder, capture_output=True, timeout=WAIT, check=False)
@@ -305,7 +308,7 @@ def events_with(data, names, faults, folder, *options):
 
 
 def test_random_runs(request, cases, tmp_path):
-    """the rule of each attempt that has one, and no other"""
+    """Each attempt that a rule decided names this rule, and no other attempt names a rule."""
     found = 0
     for names, data, faults in runs(RuleMaker(request.config.getoption("seed")), cases // 10, tmp_path):
         wanted = with_rules(events_of(data), RunFaults(faults, names))
@@ -315,7 +318,8 @@ def test_random_runs(request, cases, tmp_path):
 
 
 def test_faults_of_another_run(request, rng, cases, tmp_path):
-    """rules that do not fit are not shown, and the others continue as usual; also with time on the wire"""
+    """If the faults are those of another run, rules that do not fit are not named, and the other rules continue as
+    usual, also with time on the wire."""
     maker, found = RuleMaker(request.config.getoption("seed")), 0
     for names, data, faults in runs(maker, cases // 20, tmp_path):
         other = faults.split("\n")

@@ -1,8 +1,9 @@
-"""`canbusd audit --events --bitrate`: the time of attempts on the wire, and the numbers of bits of their frames.
+"""Tests the time of attempts on the wire and the numbers of bits of their frames, by `canbusd audit --events
+--bitrate`.
 
-Frames of known lengths and attempts by their fields, each kind of frame and of attempt beside the model of
-wire_model.py and wire_times.py, which spells frames bit by bit, and the words that are refused. test_record_events.py
-has random runs.
+There are tests of frames and attempts whose lengths follow from their fields, of each kind of frame and attempt,
+compared with the models wire_model.py and wire_times.py, which build frames bit by bit, and of refused words.
+test_record_events.py has random runs.
 """
 
 import os
@@ -21,8 +22,8 @@ from wire_times import Rates, ending_of
 
 # At these bit rates a nominal bit takes 1,000 nanoseconds, and a fast bit 125.
 FAST = Rates(1_000_000, 8_000_000)
-# Attempts to send a frame to another interface: the verdict, the class and the accepting interfaces. Interface 2 is
-# missing, and so can't see a fault.
+# Attempts to send a frame to another interface: the verdict, the outcome and the accepting interfaces. Interface 2 is
+# missing, so it can't see a fault.
 ATTEMPTS = [
     ("lastbit", "lastbit", "0002"),
     ("global-bit", "destroyed", "0000"),
@@ -33,12 +34,12 @@ ATTEMPTS = [
     ("local-stuff:0004", "done", "0002"),
     ("good", "done", "0002"),
 ]
-# A frame that no interface acknowledges.
+# An attempt whose frame no interface acknowledges.
 NOBODY = [("good", "noack", "0000")]
 
 
 def record_of(frame, attempts):
-    """Returns the record of attempts to send a frame, which is queued twice, because it succeeds at most twice."""
+    """Returns the record of attempts to send a frame. The frame is queued twice, because at most two attempts succeed."""
     bus = "2 always" if attempts is ATTEMPTS else "1 peers"
     lines = ["open 0 1 = socket 0", "option 0 fd 1 = ok", *(f"send 0 {frame} = number {k}" for k in (0, 1))]
     number = 0
@@ -50,7 +51,8 @@ def record_of(frame, attempts):
 
 
 def wires(record, rates):
-    """Returns the last parts of a record's event lines: nanoseconds of frame and attempt, and bits at each rate."""
+    """Returns the wire parts of a record's events: the nanoseconds of the frame and of the attempt, and the bits at
+    each rate."""
     words = [program(), "audit", "--events", *rate_options(rates), "/dev/stdin"]
     done = subprocess.run(words, input=record, capture_output=True, text=True, timeout=WAIT, check=False)
     assert (done.returncode, done.stderr) == (0, ""), record
@@ -59,7 +61,7 @@ def wires(record, rates):
 
 
 def bits_of(text):
-    """Returns the number of bits of a frame at each rate."""
+    """Returns the number of bits that a frame has at each rate."""
     return wires(record_of(text, NOBODY), FAST)[0][2:]
 
 
@@ -76,24 +78,27 @@ def test_known_lengths_of_classic_frames(text, bits):
         ("555##1" + 20 * "55", 27, 37 + 160),
         ("15555555##1" + 20 * "55", 46, 37 + 160),
         ("123##1" + 64 * "00", 27, 651),
-        # Without a switch BRS is dominant: before a length of 3 this makes five zeros, so a stuff bit follows.
+        # Without a switch the BRS bit is dominant. Before a length of 3 it makes five zeros in a row, so a stuff bit
+        # follows.
         ("555##0" + 20 * "55", 27 + 37 + 160, 0),
         ("555##0" + 3 * "55", 27 + 32 + 24 + 1, 0),
     ],
 )
 def test_known_lengths_of_fd_frames(text, nominal, fast):
-    """frames without stuff bits except the fixed ones have these lengths by counting fields; and so does a frame with
-    the stuff bits of 64 zeros"""
+    """FD frames with only fixed stuff bits have the lengths that counting their fields gives. So does a frame with the
+    stuff bits of 64 zero bytes."""
     assert bits_of(text) == (nominal, fast)
 
 
 def test_known_lengths_of_attempts():
-    """52 and 67 bits to the end of the data and of the CRC, 77 in all, and 3 bits of intermission after each attempt"""
+    """Attempts have 52 bits up to the end of the data, 67 up to the end of the CRC, 77 in a frame, and 3 in the
+    intermission."""
     frame, rates = "123#11223344", Rates(500_000)
     lengths = [77 + 18, 52 + 23, 52 + 23, 67 + 26, 67 + 26, 67 + 26, 80, 80]
     assert wires(record_of(frame, ATTEMPTS), rates) == [(154_000, 2_000 * length, 77, 0) for length in lengths]
     assert wires(record_of(frame, NOBODY), rates) == [(154_000, 2_000 * (67 + 19), 77, 0)]
-    # An FD frame has 17 and 5 bits to the end of its data, and 17 and 32 to the end of its CRC.
+    # An FD frame has 17 nominal and 5 fast bits up to the end of its data, and 17 nominal and 32 fast bits up to the
+    # end of its CRC.
     frame, length = "123##1", 27_000 + 32 * 125
     assert wires(record_of(frame, ATTEMPTS), FAST)[1] == (length, 40_000 + 5 * 125, 27, 32)
     assert wires(record_of(frame, NOBODY), FAST) == [(length, 36_000 + 32 * 125, 27, 32)]
@@ -104,14 +109,14 @@ def test_known_lengths_of_attempts():
     [
         ("000#", Rates(1_000_000), 50_000, 53_000),
         ("000#", Rates(500_000), 100_000, 106_000),
-        # These are 50 and 53 bits of 3,333 and a third nanoseconds.
+        # The frame has 50 bits and the attempt 53, each of 3,333 and a third nanoseconds.
         ("000#", Rates(300_000), 166_667, 176_667),
-        # These are 27 bits of 2,000 and 32 of 333 and a third nanoseconds; a switch to the nominal rate changes
-        # nothing.
+        # The frame has 27 bits of 2,000 nanoseconds and 32 bits of 333 and a third. A switch to the nominal rate
+        # changes nothing.
         ("555##1", Rates(500_000, 3_000_000), 64_667, 70_667),
         ("555##1", Rates(500_000), 118_000, 124_000),
         ("123##1" + 64 * "00", FAST, 108_375, 111_375),
-        # These are the longest frames on the slowest bus, and on the fastest.
+        # The longest frame has these times on the slowest bus and on the fastest bus.
         ("123##1" + 64 * "00", Rates(5_000), 135_600_000, 136_200_000),
         ("123##1" + 64 * "00", Rates(1_000_000, 20_000_000), 59_550, 62_550),
     ],
@@ -121,7 +126,7 @@ def test_times_are_rounded_up(text, rates, frame, attempt):
 
 
 def frames(maker, count):
-    """Returns frames of every kind and length, and others at random."""
+    """Yields frames of every kind and length, and random frames."""
     for number in (maker.getrandbits(11), maker.getrandbits(29)):
         extended = number >= 1 << 11
         yield from (Frame(number, extended, random_data(maker, length)) for length in range(9))
@@ -135,7 +140,7 @@ def frames(maker, count):
 
 
 def test_each_kind_of_frame_and_attempt(rng, cases):
-    """the program agrees with the model, at random bit rates"""
+    """The program agrees with the model for each kind of frame and attempt, at random bit rates."""
     for frame in frames(rng, cases // 10):
         rates, whole = random_rates(rng), bit_counts(frame)
         for attempts in (ATTEMPTS, NOBODY):
@@ -147,10 +152,12 @@ def test_each_kind_of_frame_and_attempt(rng, cases):
 
 
 def test_where_the_part_is(tmp_path):
-    """the last one of attempts that tried a frame; other lines are those without bit rates
+    """The time on the wire is the last part of each attempt that tried a frame. All other lines are the same as without
+    bit rates.
 
-    123#01FF has 35 bits to the end of its data with 3 stuff bits, 15 of its CRC with 2, and 10 after that, each of 2,000
-    nanoseconds; the fault of the first attempt comes at the end of the data, and 23 bits follow.
+    123#01FF has 35 bits and 3 stuff bits up to the end of its data, 15 bits of CRC with 2 stuff bits, and 10 bits after
+    that. Each bit takes 2,000 nanoseconds. The fault of the first attempt comes at the end of the data, and 23 bits
+    follow.
     """
     (tmp_path / "run.rec").write_text(RECORD)
     failed, done = "destroyed 0000 0000; counts", "; dropped 1:1"
@@ -160,7 +167,7 @@ def test_where_the_part_is(tmp_path):
 
 
 def test_the_worked_line(tmp_path):
-    """docs/RECORD.md has this line of its example"""
+    """The line with a time in docs/RECORD.md is in the events of the record shown there."""
     with open(os.path.join(ROOT, "docs", "RECORD.md"), encoding="utf-8") as page:
         (line,) = re.findall("^    (attempt .*; wire .*)$", page.read(), re.MULTILINE)
     (tmp_path / "run.rec").write_bytes(example())
@@ -169,7 +176,7 @@ def test_the_worked_line(tmp_path):
 
 
 def test_restarts_and_idle_attempts_take_no_time(tmp_path):
-    """this holds even if an attempt has both: it has the time of its own frame"""
+    """Restarts and idle attempts take no time. An attempt with a frame and a restart takes only the time of its frame."""
     entries = ["open 1 1 = socket 1", "send 1 000# = number 0"]
     entries += ["attempt 0.000034 good = tried 1 0 000# done 0000 0000 restarted 0001", "end 40"]
     both = BUS_OFF.replace("record 1", "record 2").replace("10 100", "10 100 2")
@@ -182,7 +189,7 @@ def test_restarts_and_idle_attempts_take_no_time(tmp_path):
         assert [line for line in lines if "; wire " in line] == [line for line in lines if " tried " in line]
         untimed = re.sub("; wire [0-9 ]+$", "", written, flags=re.MULTILINE)
         assert run_line("audit --events run.rec", cwd=tmp_path) == (0, untimed, "")
-    # The sender has no count to change, so the rest belongs to the restart.
+    # The sender's counts do not change, so the other parts belong to the restart.
     assert lines[-2].endswith("restarted 0001; counts 0 0 0; put 0:20000100#0000000000000000; wire 50000 53000 50 0")
 
 

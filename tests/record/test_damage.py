@@ -1,11 +1,12 @@
-"""Damaged records, and what `canbusd audit` says of each beside the independent model of record_events.py.
+"""Tests what `canbusd audit` reports for damaged records, compared with the independent model of record_events.py.
 
-Each byte of the record in docs/RECORD.md is changed, to 30 others or, with --all-bytes, to all 255; it is cut at
-each byte, and audited with and without `--cut`. So is one with an automatic restart, whose text is version 2, one with FD
-frames, whose text is version 3, and one that was written while its run went on, version 4. Records of the examples and of random
-runs, which have every kind of line, have bytes changed, and lines
-left out, doubled, exchanged, moved, and given other words and replies. Both have to name the same first wrong line
-or entry, and `ok` the same records. With --beside another program that audits as canbusd does has to say the same.
+Each byte of the record in docs/RECORD.md is changed, to 30 other bytes or, with --all-bytes, to all 255. The record is
+also cut at each byte, and audited with and without `--cut`. The same is done for a record with an automatic restart,
+which is version 2, one with FD frames, which is version 3, and one that was written during its run, which is version 4.
+Records of the examples and of random runs, which have every kind of line, have bytes changed, and lines left out,
+doubled, exchanged, moved, and given other words and replies. The program and the model must report the same first wrong
+line or entry, and `ok` for the same records. With --beside another program, which audits like canbusd, must report the
+same.
 """
 
 import glob
@@ -31,17 +32,18 @@ SEEN = b"0123459AFRfr#= .-:\n\r\t\0x\x7f\x80\xff"
 
 
 class Tried:
-    """The damaged records that were tried, and the verdicts on them."""
+    """Tries damaged records, and counts the verdicts on them."""
 
     def __init__(self, programs, changes_all, rng, folder, library):
         self.program, *self.beside = programs
         self.changes_all, self.rng, self.folder = changes_all, rng, folder
         self.said = {}
-        # The program, started once for audits with these options; without a compiler it is started for each audit.
+        # The running program for each set of options, which repeats its audit. Without a compiler the program is
+        # started for each audit.
         self.library, self.started = library, {}
 
     def audited(self, program, data, *options):
-        """Returns the status, the output and the errors of an audit of this record."""
+        """Audits this record; returns the status, the output and the errors."""
         words = [program, "audit", *options, "/dev/stdin"]
         if program != self.program or self.library is None:
             done = subprocess.run(words, input=data, capture_output=True, timeout=WAIT, check=False)
@@ -51,9 +53,9 @@ class Tried:
         return self.started[options].run(data)
 
     def one(self, data):
-        """Checks that canbusd and the replay give the same verdict on a record."""
+        """Checks that each program gives the verdict of the model on a record."""
         wanted = audit(data)
-        # The other program may know further versions.
+        # The other program may know more versions.
         beside = self.beside if wanted != "canbusd: bad version" else []
         for program in (self.program, *beside):
             status, output, errors = self.audited(program, data)
@@ -65,7 +67,8 @@ class Tried:
         self.count(wanted)
 
     def cut(self, data):
-        """Checks the same with `--cut`, for a record that may be cut off, and for its partial last line."""
+        """Checks the verdicts on a record that may be cut off, without and with `--cut`, and the note on its partial
+        last line."""
         self.one(data)
         wanted = audit(data, cut=True)
         status, output, errors = self.audited(self.program, data, "--cut")
@@ -90,7 +93,7 @@ class Tried:
 
 @pytest.fixture
 def tried(request, program, rng, tmp_path):
-    """Counts the records of a test, and prints the number in its output."""
+    """Yields an object that tries the damaged records of a test, and ends its programs afterwards."""
     beside = request.config.getoption("beside")
     programs = [program, os.path.abspath(beside)] if beside else [program]
     folder = made_once(request, "run_again", compile_library) if shutil.which("gcc") else None
@@ -102,7 +105,7 @@ def tried(request, program, rng, tmp_path):
 
 
 def example():
-    """The record of docs/RECORD.md."""
+    """Returns the record in docs/RECORD.md."""
     with open(os.path.join(ROOT, "docs", "RECORD.md"), encoding="utf-8") as page:
         text = page.read()
     lines = [line[4:] for line in text.split("    canbus record 1\n")[1].split("    end 7\n")[0].splitlines()]
@@ -110,7 +113,7 @@ def example():
 
 
 def restarted():
-    """The record of an interface that goes bus off and restarts in the second attempt after that."""
+    """Returns the record of an interface that goes bus off, and restarts in the second attempt after that."""
     lines = [
         "open 0 256 = socket 0",
         "open 1 256 = socket 1",
@@ -131,7 +134,8 @@ def restarted():
 
 
 def with_fd():
-    """The record of FD frames and a classic frame, with sockets that ask for FD frames and a socket that does not."""
+    """Returns a record of FD frames and a classic frame, with sockets that ask for FD frames and a socket that does
+    not."""
     lines = [
         "open 0 256 = socket 0", "open 1 1 = socket 1", "open 1 256 = socket 2", "send 0 123##0 = fd-off",
         "option 0 fd 1 = ok", "option 1 fd 1 = ok", "send 0 123##00102030405060708090A0B0C = number 0",
@@ -146,13 +150,13 @@ def with_fd():
 
 
 def with_flags():
-    """The same record with flags of FD frames."""
+    """Returns the record of `with_fd` with flags in its FD frames."""
     text = with_fd().replace(b"record 3", b"record 5").replace(b"123##0 = fd-off", b"123##2 = fd-off")
     return text.replace(b"##001", b"##101").replace(b"##0FF", b"##3FF")
 
 
 def live(data=None):
-    """Returns a record as if it was written during its run; by default a record with an automatic restart."""
+    """Returns a record as a server writes it during its run. By default it is the record with an automatic restart."""
     first, bus, entries = (data or restarted()).split(b"\n", 2)
     *words, capacity, limit, restart = [*bus.split(b" "), *([b"0"] if first.endswith(b"1") else [])]
     assert (capacity, limit) == (b"10", b"100")
@@ -160,7 +164,7 @@ def live(data=None):
 
 
 def recorded(tried, words, text):
-    """Returns the record of a run of the bench."""
+    """Runs the bench with these words and this input; returns its record."""
     path = os.path.join(tried.folder, "run.rec")
     done = subprocess.run(
         [tried.program, "bench", "--record", path, *words],
@@ -246,7 +250,7 @@ def random_line(rng, session, has_fd):
 
 @in_parts
 def test_bytes_of_the_example(tried, part):
-    """each byte is changed, and the record is cut at each"""
+    """The verdicts agree if any byte of the example is changed, and if the example is cut at any byte."""
     assert audit(example()) == "ok 7 entries", "the example"
     change_bytes(tried, example(), part=part)
     assert tried.said["ok N entries"] >= 1, "the example is not ok"
@@ -254,31 +258,31 @@ def test_bytes_of_the_example(tried, part):
 
 @pytest.mark.slow
 def test_bytes_of_a_record_with_a_restart(tried):
-    """the verdicts agree for version 2"""
+    """The verdicts agree for damaged records of version 2."""
     data = restarted()
     assert audit(data) == "ok 42 entries", f"the record: {audit(data)}"
-    # The attempts before the bus off are all alike.
+    # The attempts before bus off are all alike, so their bytes are not changed.
     lines = data.splitlines(True)
     change_bytes(tried, data, len(b"".join(lines[:7])), len(b"".join(lines[:36])))
 
 
 @pytest.mark.slow
 def test_bytes_of_a_record_with_fd_frames(tried):
-    """the verdicts agree for version 3"""
+    """The verdicts agree for damaged records of version 3."""
     assert audit(with_fd()) == "ok 15 entries", f"the record: {audit(with_fd())}"
     change_bytes(tried, with_fd())
 
 
 @in_parts
 def test_bytes_of_a_record_with_flags(tried, part):
-    """each byte is changed, and the record is cut at each"""
+    """The verdicts agree if any byte of a record with FD flags is changed, and if the record is cut at any byte."""
     assert audit(with_flags()) == "ok 15 entries", f"the record: {audit(with_flags())}"
     change_bytes(tried, with_flags(), part=part)
 
 
 @in_parts
 def test_bytes_of_a_live_record(tried, part):
-    """each byte of the front of version 4 changed, and the record cut at each byte"""
+    """The verdicts agree if any byte of the first lines of version 4 is changed, and if the record is cut at any byte."""
     data = live()
     assert audit(data) == "ok 42 entries", f"the record: {audit(data)}"
     lines = data.splitlines(True)
@@ -289,15 +293,15 @@ def test_bytes_of_a_live_record(tried, part):
 
 @pytest.mark.slow
 def test_bytes_of_a_live_record_with_fd_frames(tried):
-    """the same for its entries, and those with FD frames"""
+    """The verdicts agree if any byte of the entries of version 4 is changed, also with FD frames."""
     lines = live().splitlines(True)
     change_bytes(tried, live(), len(b"".join(lines[:7])), len(b"".join(lines[:36])))
     change_bytes(tried, live(with_fd()))
 
 
 def change_bytes(tried, data, skip_from=0, skip_to=0, part=None):
-    """Changes and removes each byte, and cuts the record at each, except within a piece of it, or only in this part;
-    and appends text."""
+    """Changes and removes each byte of a record, cuts the record there, and appends text. Leaves out the bytes from
+    `skip_from` to `skip_to`, and the bytes of other parts."""
     tried.one(data)
     for place, byte in enumerate(data):
         if skip_from <= place < skip_to or part not in (None, place % PARTS):
@@ -313,7 +317,7 @@ def change_bytes(tried, data, skip_from=0, skip_to=0, part=None):
 
 
 def test_named_damages_of_the_example(tried):
-    """the reports have the required form, without the replay's help"""
+    """These damaged records get the expected verdicts, both from the model and from the program."""
     text = example().decode()
     damages = [
         (text.replace("canbus record 1", "canbus record 9"), "bad version"),
@@ -374,7 +378,7 @@ def test_named_damages_of_the_example(tried):
 
 
 def test_named_cuts(tried):
-    """the verdicts on a record that is cut off are right, without the replay's help"""
+    """These records that are cut off get the expected verdicts, both from the model and from the program."""
     lines = example().splitlines(True)
     wrong = [line.replace(b"done 0002", b"done 0000") for line in lines]
     bad = [line.replace(b"123#01FF", b"123#01ff") for line in lines]
@@ -398,10 +402,10 @@ def test_named_cuts(tried):
         (b"", "canbusd: bad version"),
         (b"".join([*lines, b"x"]), "canbusd: line 11: bad line"),
         (b"".join([*lines, b"x\n"]), "canbusd: line 11: bad line"),
-        # An FD frame may come later.
+        # An FD frame may follow later.
         (needless, "ok 1 entries, then cut off"),
         (needless + b"end 1\n", "canbusd: bad version"),
-        # Version 4 needs no FD frame.
+        # A record of version 4 needs no FD frame.
         (live(example()), "ok 7 entries"),
         (live(example())[:-1], "ok 7 entries, then cut off"),
         (live(with_fd()), "ok 15 entries"),
@@ -416,7 +420,7 @@ def test_named_cuts(tried):
 
 
 def test_files_of_one_record(tried):
-    """a record in several files, cut anywhere between them, is one record, and a missing file is reported"""
+    """A record in two files is one record, wherever it is split, and a missing file is reported."""
     data = example()
     first, second = tried.folder / "1.rec", tried.folder / "2.rec"
     for place in range(len(data) + 1):
@@ -439,7 +443,7 @@ def test_files_of_one_record(tried):
 
 
 def test_what_cut_would_do_is_said(tried):
-    """the message comes if a record ends without its last line, and only then"""
+    """If a record lacks its last line, a note says what --cut would do. Other faults get no such note."""
     text = example()
     cut = "  with --cut the {} entries before it are audited\n"
     ends = [
@@ -460,8 +464,8 @@ def test_what_cut_would_do_is_said(tried):
 
 @in_parts
 def test_lines_of_other_records(tried, part):
-    """lines of the examples' records and of random runs are left out, doubled, exchanged, and given other replies and
-    words"""
+    """The verdicts agree if lines of the examples' records and of random runs are left out, doubled, exchanged, or
+    given other replies and words."""
     for data in [*itertools.islice(examples(tried), part, None, PARTS), random_run(tried)]:
         assert audit(data).startswith("ok "), f"the replay: {audit(data)}"
         tried.one(data)
@@ -498,7 +502,7 @@ def with_other_word(rng, line):
     place = rng.randrange(len(words))
     word = words[place]
     if word.isdigit() and rng.random() < 0.7:
-        # A capacity has 32 bits here, and may have more in other programs.
+        # A capacity has 32 bits in canbusd, and may have more in other programs.
         far = 10**6 if words[0] == b"open" else 2**32
         words[place] = b"%d" % max(0, int(word) + rng.choice([-1, 1, 2, 10**6, far, 2**64]))
     elif word:
@@ -508,7 +512,7 @@ def with_other_word(rng, line):
 
 
 def test_bytes_of_other_records(tried):
-    """random bytes of random runs are changed"""
+    """The verdicts agree if random bytes of random runs are changed."""
     rng = tried.rng
     for data in (random_run(tried) for _ in range(4)):
         for _ in range(400):

@@ -1,4 +1,4 @@
-"""Logs: candump's as inputs of a bench, and a bench's read by python-can and can-utils.
+"""Tests that a bench takes logs of candump as inputs, and that python-can and can-utils read logs of a bench.
 
 Each reader must find one message for each line, with the line's identifier, kind and data.
 """
@@ -14,7 +14,7 @@ from commands import call, is_clean
 from serving import ROOT, program
 
 LOG_READER = os.path.join(ROOT, "tools", "candump2bench")
-# A line of each kind, as the tests of can_logfile expect it.
+# A line of each kind, as in the tests of can_logfile.
 EVERY_KIND = """\
 (0000000000.000005) can0 00000123#R3
 (0000000023.424242) can0 123#11223344
@@ -40,7 +40,7 @@ class Message:
         word, payload = text.split("#", 1)
         self.is_fd, self.flags = payload.startswith("#"), 0
         if self.is_fd:
-            # An FD frame has a second mark and a digit of flags: 1 is the bit rate switch, 2 the error state indicator.
+            # An FD frame has a second # and a digit of flags: 1 is the bit rate switch, 2 the error state indicator.
             self.flags, payload = int(payload[1]), payload[2:]
         self.is_error = len(word) == 8 and int(word, 16) & 0x20000000 != 0
         self.is_extended = len(word) == 8 and not self.is_error
@@ -50,7 +50,7 @@ class Message:
 
 
 def by_python_can(path, messages):
-    """Returns the messages that python-can reads differently."""
+    """Returns a report for each message that python-can reads differently."""
     reader = pytest.importorskip("can.io", reason="python-can is not installed")
     found = list(reader.CanutilsLogReader(path))
     faults = [] if len(found) == len(messages) else [f"python-can: {len(found)} messages"]
@@ -70,7 +70,7 @@ def by_python_can(path, messages):
 
 
 def by_log2asc(path, messages):
-    """Returns the messages that can-utils' log2asc reads differently."""
+    """Returns a report for each message that log2asc of can-utils reads differently."""
     if not shutil.which("log2asc"):
         pytest.skip("can-utils is not installed")
     channels = sorted({message.channel for message in messages})
@@ -84,7 +84,7 @@ def by_log2asc(path, messages):
         else:
             number = f"{wanted.number:X}" + ("x" if wanted.is_extended else "")
             if wanted.is_fd:
-                # time, CANFD, channel, Rx, identifier, two flags, code of the length, length, bytes
+                # The words are time, CANFD, channel, Rx, identifier, two flags, length code, length, and bytes.
                 same, data = words[1] == "CANFD" and words[4] == number, words[9:]
                 same = same and int(words[5]) + 2 * int(words[6]) == wanted.flags
             else:
@@ -106,13 +106,13 @@ LOG = """\
 (1.000450) can1 123##10102030405060708090A0B0C
 (1.000460) can0 1FFFFFFF##0
 """
-# The frames of that log that a listener receives.
+# The frames of LOG that a listener receives.
 HEARD = [
     "frame 123 1.000000 1122", "remote 123 1.000100 0", "remote 7FF 1.000200 4",
     "frame 1FFFFFFF 1.000300 0102030405060708", "frame 12345678 1.000400 ", "frame 048C0000 0.500000 DEADBEEF",
     "fdframex 1 123 1.000450 0102030405060708090A0B0C", "fdframe 1FFFFFFF 1.000460 ",
 ]  # fmt: skip
-# The log of a bench.
+# The log that a bench writes when it plays LOG.
 LOGGED = """\
 (0000000001.000000) can0 123#1122
 (0000000001.000100) can1 123#R
@@ -123,7 +123,7 @@ LOGGED = """\
 (0000000001.000450) can1 123##10102030405060708090A0B0C
 (0000000001.000460) can0 1FFFFFFF##0
 """
-# Lines that are left out, and a word of the reason.
+# Lines that are refused, and a word of the reason.
 NOT_TAKEN = [
     ("(1.000500) can0 123##0112233445566778899", "bytes"),
     ("(1.000500) can0 123##", "no frame"),
@@ -143,7 +143,8 @@ NOT_TAKEN = [
 
 
 def heard(bench, folder):
-    """Returns the frames that the listener of an input reads on the bus in the input's first line."""
+    """Runs a bench with this input, on the bus that its first line names; returns the frames that the listener
+    receives."""
     bus = re.match(r"# canbusd bench (\S+) < THIS FILE\n", bench)[1]
     record = os.path.join(folder, "log.rec")
     done = subprocess.run(
@@ -155,7 +156,8 @@ def heard(bench, folder):
 
 
 def test_logs_of_candump(tmp_path):
-    """data, remote and 29-bit frames of several interfaces at their moments; lines that can't be taken"""
+    """candump2bench takes data, remote and 29-bit frames of several interfaces with their times, and reports each line
+    that it can't take."""
     path = os.path.join(tmp_path, "run.log")
     with open(path, "w", encoding="ascii") as file:
         file.write(LOG)
@@ -179,7 +181,7 @@ def test_logs_of_candump(tmp_path):
 
 
 def test_log_of_a_bench(tmp_path):
-    """a log that went through a bench is the same log"""
+    """A log that is played by a bench has the same frames and times in the log of that bench."""
     path, log = tmp_path / "run.log", tmp_path / "again.log"
     path.write_text(LOG)
     bench = call(LOG_READER, path)[1]
@@ -190,7 +192,7 @@ def test_log_of_a_bench(tmp_path):
 
 
 def log_with_destroyed_frames(folder):
-    """The log of an example in which 32 frames are destroyed."""
+    """Returns the log of an example in which 32 frames are destroyed."""
     path = folder / "destroyed.log"
     with open(os.path.join(ROOT, "examples", "bus_off_attack.bench"), encoding="utf-8") as lines:
         done = call(
@@ -204,7 +206,8 @@ def log_with_destroyed_frames(folder):
 
 @pytest.mark.parametrize("reads", [by_python_can, by_log2asc])
 def test_readers(reads, tmp_path):
-    """python-can and can-utils read what a bench logs: every kind of line, a log taken in, one with destroyed frames"""
+    """python-can and can-utils read each log of a bench: one with every kind of line, one of a played log, and one with
+    destroyed frames."""
     path = tmp_path / "read.log"
     for text in (EVERY_KIND, LOGGED, log_with_destroyed_frames(tmp_path)):
         path.write_text(text)
@@ -213,7 +216,7 @@ def test_readers(reads, tmp_path):
 
 
 def test_log_of_many_frames(tmp_path):
-    """20,000 frames of 3 interfaces, as python-can and can-utils write them"""
+    """candump2bench takes a log of 20,000 frames of 3 interfaces, as python-can and can-utils write it."""
     lines, wanted = [], []
     for number in range(20000):
         identifier = f"{0x10000000 + number * 4177:08X}" if number % 3 == 0 else f"{number * 7 % 0x800:03X}"

@@ -1,8 +1,8 @@
-"""`canbusd audit --events`: what it writes of random runs, whole and cut off, is what an independent model does.
+"""Tests that `canbusd audit --events` writes the events of an independent model, for random runs, whole and cut off.
 
-The model is record_events.py; of a record that is not legal the program writes the lines before the fault. With bit rates the
-lines have time on the wire, by wire_model.py and wire_times.py. And what the Python package reads of these lines is what the
-model has.
+The model is record_events.py. If a record is not legal, the program writes the lines before the fault. With bit rates
+the lines have times on the wire, which wire_model.py and wire_times.py compute. The tests also check that the Python
+package reads from these lines what the model has.
 """
 
 import subprocess
@@ -17,7 +17,8 @@ from serving import WAIT, program
 from test_audit_events import EVENTS, RECORD
 from timed_benches import random_rates, rate_options
 
-# Two interfaces at 248 each lose what they have to send with bus off; in the second attempt after that one is back.
+# Interface 0 goes bus off at its 32nd destroyed attempt and loses its waiting frames. It restarts in the second attempt
+# after that.
 BUS_OFF = [
     "canbus record 2",
     "bus 2 always 0000 10 100 2",
@@ -33,7 +34,7 @@ BUS_OFF = [
 ]
 AT_BUS_OFF = "; counts 0 256 0; counts 1 0 32; lost 0 2; put 0:20000040#0000000000000000"
 AT_RESTART = "; counts 0 0 0; put 0:20000100#0000000000000000"
-# An interface goes down, twice, and comes up; its entries, each with what it brought about.
+# An interface goes down twice, and comes up. Each entry has the parts of its event line.
 DOWNS = [
     ("open 0 256 = socket 0", ""),
     ("open 1 256 = socket 1", ""),
@@ -56,31 +57,31 @@ DOWNS = [
     ("attempt 0.000007 good = tried 0 2 103# done 0006 0000", "; put 1"),
 ]
 BUS_OF_DOWNS = "bus 3 always 0000 10 100 0"
-# A record in version 6 that does not need it.
+# A record of version 6 that does not need this version.
 BUS_OFF_6 = "".join(f"{line}\n" for line in ["canbus record 6", *BUS_OFF[1:]]).encode()
 
 
 def with_downs():
-    """The record of these entries."""
+    """Returns the record of the entries in DOWNS."""
     lines = ["canbus record 6", BUS_OF_DOWNS, *(entry for entry, _ in DOWNS), f"end {len(DOWNS)}"]
     return "".join(f"{line}\n" for line in lines).encode()
 
 
 def events_of_downs():
-    """The events of these entries."""
+    """Returns the events of the entries in DOWNS."""
     lines = ["canbus events 1", BUS_OF_DOWNS, *map("".join, DOWNS), f"end {len(DOWNS)}"]
     return "".join(f"{line}\n" for line in lines)
 
 
 def said(data, *options):
-    """What the program writes of a record, its status, and what it writes on standard error."""
+    """Audits a record with these options; returns the output, the status and the standard error of the program."""
     words = [program(), "audit", *options, "/dev/stdin"]
     done = subprocess.run(words, input=data, capture_output=True, timeout=WAIT, check=False)
     return done.stdout.decode(), done.returncode, done.stderr.decode()
 
 
 def records(seed, count, folder):
-    """The records of so many random runs."""
+    """Yields the records of this many random runs."""
     maker = Maker(seed)
     while count:
         case, path = maker.case(), folder / "run.rec"
@@ -93,7 +94,7 @@ def records(seed, count, folder):
 
 
 def test_the_model():
-    """its lines of two records, by hand"""
+    """The model writes the lines that two records have by hand."""
     assert events_of(RECORD.encode()) == EVENTS
     lines = events_of("".join(f"{line}\n" for line in BUS_OFF).encode()).splitlines()
     assert lines[:2] == ["canbus events 1", BUS_OFF[1]] and lines[6] == f"{BUS_OFF[6]}; counts 0 8 0; counts 1 0 1"
@@ -107,7 +108,7 @@ def test_the_model():
 
 
 def test_the_model_of_downs():
-    """its lines of a record by hand; and which version it needs"""
+    """The model writes the lines that the entries of DOWNS have by hand, and it checks which version they need."""
     assert events_of(with_downs()) == events_of_downs()
     others = {
         with_downs().replace(b"record 6", b"record 5"): "line 10: bad line",
@@ -119,7 +120,8 @@ def test_the_model_of_downs():
 
 
 def test_events_of_downs():
-    """the program's lines are those of the model, and so is what it says of other records"""
+    """The program writes the lines of the model for the entries of DOWNS, and its reports on wrong records agree with
+    the model."""
     assert said(with_downs(), "--events") == (events_of_downs(), 0, "")
     for data in (with_downs().replace(b"record 6", b"record 5"), with_downs().replace(b"interface-down", b"bus-off")):
         assert said(data)[2].splitlines()[0] == record_events.audit(data)
@@ -127,7 +129,7 @@ def test_events_of_downs():
 
 
 def test_events_of_random_runs(request, cases, tmp_path):
-    """the program's lines are those of the model"""
+    """The program writes the lines of the model for random runs."""
     items = 0
     for data in records(request.config.getoption("seed"), cases // 2, tmp_path):
         wanted = events_of(data)
@@ -137,7 +139,7 @@ def test_events_of_random_runs(request, cases, tmp_path):
 
 
 def test_time_on_the_wire_of_random_runs(request, rng, cases, tmp_path):
-    """at random bit rates"""
+    """The program writes the times of the model for random runs at random bit rates."""
     tried = 0
     for data in records(request.config.getoption("seed"), cases // 10, tmp_path):
         rates = random_rates(rng)
@@ -148,7 +150,7 @@ def test_time_on_the_wire_of_random_runs(request, rng, cases, tmp_path):
 
 
 def test_events_of_records_that_are_cut_off(request, rng, cases, tmp_path):
-    """at a random place, which may be within a line"""
+    """The program writes the lines of the model for records that are cut off at a random place, even within a line."""
     for data in records(request.config.getoption("seed"), cases // 10, tmp_path):
         whole = data[: rng.randrange(data.index(b"\n", data.index(b"\n") + 1) + 1, len(data))]
         written, status, _ = said(whole, "--events", "--cut")
@@ -156,7 +158,9 @@ def test_events_of_records_that_are_cut_off(request, rng, cases, tmp_path):
 
 
 def test_events_of_wrong_records(request, rng, cases, tmp_path):
-    """the lines before the one that is wrong, and the fault as without the option"""
+    """For a wrong record the program writes the lines before the wrong one, and reports the fault that it reports
+    without --events.
+    """
     for data in records(request.config.getoption("seed"), cases // 10, tmp_path):
         lines = data.splitlines(True)
         place = rng.randrange(2, len(lines))
@@ -171,7 +175,7 @@ def test_events_of_wrong_records(request, rng, cases, tmp_path):
 
 
 def step_of(step):
-    """A step, to be compared."""
+    """Returns a step in a form that can be compared."""
     lists = (step.accepted, step.off, step.hit, step.counts, step.waiting)
     met = [(number, frame.text) for number, frame in step.contenders]
     when = step.kind, step.entry, step.moment, step.attempt, step.idle
@@ -179,7 +183,8 @@ def step_of(step):
 
 
 def bus_of(run, text=lambda frame: frame):
-    """The interfaces and sockets of a run at its end, the frames that were lost, and the sends that were refused."""
+    """Returns the state of a run at its end: interfaces with their waiting and lost frames, sockets, refused sends, and
+    counts."""
     ifaces = [
         (
             [*map(text, one.waiting)],
@@ -201,13 +206,14 @@ def bus_of(run, text=lambda frame: frame):
 
 
 def queued_in(parts):
-    """The items that parts of entries name, with their sockets."""
+    """Yields the items in the `put` parts of entries: the number of the socket, and the error message frame if there is
+    one."""
     for words in (part.split(" ")[1:] for one in parts.values() for part in one if part.startswith("put ")):
         yield from ((int(number), error) for number, _, error in (word.partition(":") for word in words))
 
 
 def times_in(lines):
-    """The time on the wire that lines say, by the numbers of their entries."""
+    """Returns the times on the wire in these lines, by the number of the entry."""
     found = {}
     for number, line in enumerate(lines):
         wire = line.partition("; wire ")[2]
@@ -217,7 +223,7 @@ def times_in(lines):
 
 
 def test_the_times_that_the_package_reads(request, rng, cases, tmp_path):
-    """of each attempt that tried a frame, and none of a restart"""
+    """The package reads the times of each attempt that tried a frame, and no times for a restart."""
     for data in records(request.config.getoption("seed"), cases // 20, tmp_path):
         rates, run = random_rates(rng), Replay()
         lines = events_of(data, rates=rates).splitlines()
@@ -231,7 +237,9 @@ def test_the_times_that_the_package_reads(request, rng, cases, tmp_path):
 
 
 def test_what_the_package_reads(request, cases, tmp_path):
-    """random runs, and one by hand: steps, items, lost frames, and the bus at the end"""
+    """The package reads the steps, items, lost frames and final state of the model, for random runs and for the entries
+    of DOWNS.
+    """
     for data in [with_downs(), *records(request.config.getoption("seed"), cases // 4, tmp_path)]:
         run, model = Replay(), record_events.Replay(parse_text(data))
         run.take(events_of(data).splitlines())
@@ -241,7 +249,7 @@ def test_what_the_package_reads(request, cases, tmp_path):
         assert run.lost == lost, data
         items = [*zip(run.items.steps, run.items.sockets, run.items.errors, run.items.fates())]
         queued = [(run.steps.entries[step], socket, error) for step, socket, error, fate in items if fate != DROPPED]
-        # A line has those of the restarts among those of the attempt.
+        # A line has the items of restarts among those of the attempt.
         by_socket = sorted(queued, key=lambda item: item[:2])
         assert [(socket, run.texts.all[error]) for _, socket, error in by_socket] == [*queued_in(model.parts)], data
         assert len(items) - len(queued) == sum(socket.dropped for socket in run.sockets), data

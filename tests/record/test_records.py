@@ -1,10 +1,10 @@
-"""Records and logs of a bench, and the exact reports of the audit on a damaged record."""
+"""Tests records and logs of a bench, and the exact reports of the audit on a damaged record."""
 
 import pytest
 
 from commands import TWO_SESSIONS, TWO_STARTED, run_line
 
-# Two sockets with room for an item, a frame between them, and the close of the second socket.
+# Two sockets with room for one item each, a frame from one to the other, and the close of the second socket.
 RECORD = """canbus record 1
 bus 2 always 0000 10 100
 open 0 1 = socket 0
@@ -22,7 +22,7 @@ VERSION = (
     "down, canbus record 6"
 )
 LINE = "a line is EVENT = REPLY, and the last is end COUNT; each ends with LF"
-# The old text, the new text, the fault, its line and the form of that, and the message.
+# The old text, the new text, the fault, the wrong line with its number, and the note.
 DAMAGED = [
     (
         "done 0002",
@@ -106,7 +106,7 @@ DAMAGED = [
 
 
 def test_a_record(tmp_path):
-    """the record has these entries, and passes the audit"""
+    """A bench writes a record with these entries, and the record passes the audit."""
     lines = "feed 1 < send 123 2 1 ff >\nat 0.000001\nattempt\ndrain 2\nfeed 2 < close >\n"
     written = "tried can0 0 done can1 -\n2 < frame 123 0.000001 01FF >\n2 < closed 0 0 >\n"
     line = "bench --record run.rec --rxqueue 1 --limit 100 can0,can1"
@@ -132,7 +132,7 @@ def test_a_file_that_cannot_be_opened(what, tmp_path):
 
 
 def test_files_of_a_run_that_ends_in_a_fault(tmp_path):
-    """there are no new files, and old ones stay unchanged"""
+    """A run that ends in a fault makes no new files and leaves old files unchanged."""
     errors = """canbusd: line 1: bad line
   standard input:1: attempt 1
   nothing may follow attempt: each line makes one attempt
@@ -152,7 +152,7 @@ def test_files_of_a_run_that_ends_in_a_fault(tmp_path):
 
 
 def test_a_strict_bench_that_ends_in_a_refusal(tmp_path):
-    """a strict bench writes its record nevertheless"""
+    """A strict bench that ends in a refusal still writes its record."""
     output = "1 < hi >\n1 < error no such interface >\n"
     errors = "canbusd: message refused\n  standard output, byte 9: 1 < error no such interface >\n"
     line = "bench --strict --record run.rec can0"
@@ -161,7 +161,7 @@ def test_a_strict_bench_that_ends_in_a_refusal(tmp_path):
 
 
 def test_a_log_in_the_place_of_the_record(tmp_path):
-    """even through a link it is refused, and the record is complete"""
+    """A log that is the same file as the record is refused, even through a link, and the record is complete."""
     (tmp_path / "run.rec").write_text("old")
     (tmp_path / "run.log").symlink_to("run.rec")
     errors = "canbusd: cannot open run.log\n  --record names this file too\n"
@@ -179,14 +179,14 @@ def test_damaged_records(old, new, fault, place, note, tmp_path):
 
 @pytest.mark.parametrize("damaged, number", [(b"canbus record 9\n\xff\n", 2), (b"\xff", 1)])
 def test_bytes_that_are_no_text(damaged, number, tmp_path):
-    """such bytes are reported before a malformed line, wherever they are"""
+    """Bytes that are not UTF-8 text are reported before a malformed line, wherever they are."""
     (tmp_path / "damaged.rec").write_bytes(damaged)
     errors = f"canbusd: read fault\n  damaged.rec:{number}: ?\n  this line is no UTF-8 text\n"
     assert run_line("audit damaged.rec", cwd=tmp_path) == (1, "", errors)
 
 
 def test_the_record_of_a_restart(tmp_path):
-    """an interface restarts by itself, and a record without the restart is wrong"""
+    """The record has the automatic restart of an interface, and a record without the restart is wrong."""
     (tmp_path / "off.script").write_text("".join(f"{number} global bit\n" for number in range(32)))
     attempts = "".join(f"at 0.{number:06}\nattempt\n" for number in range(1, 35))
     lines = f"feed 1 < errmask 140 >< send 123 0 >\n{attempts}drain 1\nfeed 1 < send 123 0 >\nattempt\n"

@@ -1,5 +1,4 @@
-"""The tools for runs, and the package's drawings: pages in a browser, drawings, and the replay compared with the
-program."""
+"""Tests the reports on runs: pages in a browser, drawings, and the replay compared with the program."""
 
 import os
 import re
@@ -14,7 +13,7 @@ from forked import forked
 from random_benches import Maker
 from serving import ROOT, program
 
-# The same command as a program.
+# The command `canbusd report` as a separate program.
 REPORT = [sys.executable, "-m", "canbusd", "report"]
 # The number of random runs that are replayed.
 RUNS = 300
@@ -27,7 +26,7 @@ def reported(*words):
 
 
 def numbers_asked(written, sessions):
-    """Returns the last answers of each session to `stats` and `status`, as tuples of words."""
+    """Returns the last answers of each session to `stats` and `status`, each as a tuple of words."""
     found = re.findall(
         r"< stats ([0-9 ]+) >< status (\w+) (\d+) (\d+) >$", "\n".join(written.splitlines()[-sessions:]), re.M
     )
@@ -35,7 +34,7 @@ def numbers_asked(written, sessions):
 
 
 def numbers_replayed(run):
-    """Returns the same for each socket that is open at the end of a replay."""
+    """Yields the same numbers for each socket that is open at the end of a replay."""
     for socket in run.sockets:
         if socket.closed_after is None:
             iface = run.ifaces[socket.iface]
@@ -60,7 +59,7 @@ def numbers_replayed(run):
 
 
 def test_replay(tmp_path):
-    """in random runs each reply, and the statistics of sockets and interfaces, agree with the program"""
+    """The replays of random runs agree with the program in each reply and in the statistics of sockets and interfaces."""
     maker, runs, asked, off = Maker(20), 0, 0, 0
     for _ in range(RUNS):
         case = maker.case()
@@ -83,7 +82,7 @@ def test_replay(tmp_path):
 
 
 def test_record_of_another_history(tmp_path):
-    """the replay notices each changed reply in each line of a record, like the audit"""
+    """The replay notices each changed reply in a record, like the audit."""
     record, _ = example("last_bit", tmp_path)
     with open(record, encoding="ascii") as file:
         lines = file.read().splitlines()
@@ -97,7 +96,7 @@ def test_record_of_another_history(tmp_path):
 
 
 def replies_like(line):
-    """Returns other replies that a line may have."""
+    """Returns the same line with other replies that it could have."""
     event, reply = line.split(" = ")
     others = {
         "open": ["socket 7", "too-many-sockets"],
@@ -110,7 +109,8 @@ def replies_like(line):
 
 
 def test_faults_of_records(tmp_path):
-    """a record is missing, empty, binary, cut or damaged; a reader goes away; a device is full"""
+    """`canbusd report` fails cleanly if a record is missing, empty, binary, cut or damaged. It also does if a reader
+    goes away or a device is full."""
     record, _ = example("bus_off_attack", tmp_path)
     with open(record, "rb") as file:
         text = file.read()
@@ -150,7 +150,8 @@ def test_faults_of_records(tmp_path):
 
 
 def test_names_of_interfaces(tmp_path):
-    """names come from the arguments, or from the log next to the record, and never from another run's log"""
+    """Names of interfaces come from the arguments or from the log next to the record, but never from the log of another
+    run."""
     record, _ = example("lost_arbitration", tmp_path)
 
     def winners():
@@ -181,7 +182,7 @@ def test_names_of_interfaces(tmp_path):
 
 
 def test_drawings(tmp_path):
-    """the guide's drawing is the output of `report`, and no drawing is wider than 120 columns"""
+    """The guide shows the drawing that `report` makes, and no drawing is wider than 120 columns."""
     with open(os.path.join(ROOT, "docs", "GUIDE.md"), encoding="utf-8") as file:
         guide = file.read()
     widest = 0
@@ -219,7 +220,7 @@ def width_of_sixteen(folder):
 
 
 def page_in_browser(page, step):
-    """Returns the text of a page's elements, with a step chosen."""
+    """Opens the page in a browser with this step chosen; returns the text of the page's elements."""
     done = call(
         BROWSER,
         "--headless",
@@ -239,7 +240,7 @@ def page_in_browser(page, step):
     )
 
 
-# For some examples the chosen step, and the text on the page then.
+# Examples, each with the chosen step and the texts that the page then has.
 SHOWN = [
     (
         "lost_arbitration",
@@ -268,7 +269,7 @@ SHOWN = [
 
 @pytest.mark.parametrize("name", examples())
 def test_page(name, tmp_path):
-    """the page of each example is one file without a link"""
+    """The page of each example is one file without links."""
     record, names = example(name, tmp_path)
     status, page, errors = reported("--names", names, record)
     assert (status, errors) == (0, "") and page.endswith("</html>\n"), errors
@@ -279,7 +280,7 @@ def test_page(name, tmp_path):
 @pytest.mark.browser
 @pytest.mark.parametrize("name, step, texts", SHOWN)
 def test_page_in_a_browser(name, step, texts, tmp_path):
-    """the page shows the chosen attempt"""
+    """The page in a browser shows the chosen attempt."""
     record, names = example(name, tmp_path)
     path = tmp_path / f"{name}.html"
     path.write_text(reported("--names", names, record)[1], encoding="utf-8")
@@ -290,7 +291,7 @@ def test_page_in_a_browser(name, step, texts, tmp_path):
 
 @pytest.mark.slow
 def test_page_of_a_long_run(tmp_path):
-    """the page of 100,000 attempts is made, and opens in a browser"""
+    """The page of 100,000 attempts can be made, and opens in a browser."""
     lines = ["session 1\nfeed 1 < open can0 >< rawmode >\nsession 2\nfeed 2 < open can1 >< rawmode >\n"]
     lines += [
         f"at {number // 1000}.{number % 1000:03}000\n"

@@ -1,5 +1,6 @@
-"""`canbusd serve` with clients that know nothing about it: python-can, its player and logger, and can-utils'
-readers."""
+"""Tests `canbusd serve` with clients that were not written for it: python-can, its player and logger, and the readers
+of can-utils.
+"""
 
 import contextlib
 import logging
@@ -21,18 +22,18 @@ from can.io import CanutilsLogReader  # noqa: E402
 
 # The number of frames of the replayed log.
 FRAMES = 10000
-# Small identifiers of 29 bits go out without leading zeros, and each received frame counts as one of 29 bits.
+# python-can 4.1 sends small 29-bit identifiers without leading zeros, and treats each received frame as a 29-bit frame.
 OLD_CLIENT = can.__version__.startswith("4.1.")
 
 
 def client(server, name, **more):
-    """Opens python-can's bus on the interface with this name."""
+    """Opens a python-can bus on the interface with this name."""
     return can.Bus(interface="socketcand", channel=name, host=server.host, port=server.port, **more)
 
 
 @contextlib.contextmanager
 def logged():
-    """The lines that python-can logs."""
+    """Yields a list that collects the messages that python-can logs."""
     lines = []
     handler = logging.Handler()
     handler.emit = lambda record: lines.append(record.getMessage())
@@ -65,19 +66,19 @@ def passes(source, target, number, data):
 
 
 def test_python_can_both_ways():
-    """frames of 11 and 29 bits with 0 to 8 bytes arrive in both directions"""
+    """Frames of 11 and 29 bits with 0 to 8 bytes arrive in both directions."""
     with serving("can0,can1") as server, client(server, "can0") as can0, client(server, "can1") as can1:
         for number in (0, 0x123, 0x7FF, 0x10000000, 0x12345678, 0x1FFFFFFF):
             for length in (0, 1, 8):
                 got = passes(can0, can1, number, bytes(range(0xF8, 0xF8 + length)))
                 assert abs(got.timestamp - time.time()) < WAIT, f"the moment {got.timestamp}"
-                # Each bus gets the next frame of the other, and no frame of its own before that.
+                # An interface does not get its own frames, so its next frame is the one from the other interface.
                 passes(can1, can0, number, bytes(range(length)))
         passes(can0, can1, 0x7FF, b"")
 
 
 def test_empty_frame():
-    """a frame without data has two spaces before its end"""
+    """The text of a frame without data has two spaces before its end."""
     with serving("can0,can1") as server, client(server, "can0") as can0, client(server, "can1") as can1:
         socket1 = plain(server, "can1")
         got = passes(can0, can1, 0x123, b"")
@@ -87,7 +88,7 @@ def test_empty_frame():
 
 
 def test_identifiers_of_29_bits():
-    """identifiers below 10000000 arrive too, if bit 31 is set in the identifier"""
+    """29-bit identifiers below 10000000 (hexadecimal) arrive too if bit 31 of the identifier is set."""
     saw = []
     with serving("can0,can1") as server, client(server, "can0") as can0, logged() as lines:
         socket1 = plain(server, "can1")
@@ -105,21 +106,21 @@ def test_identifiers_of_29_bits():
             second = socket1.frame()
             assert second == (f"{number:08X}", b"\x01"), f"{second}"
             saw.append(f"{number | 0x80000000:X} as {number:08X}")
-        # Answers to can0 before this frame are read before it.
+        # can0 reads all replies to its earlier messages before it reads this frame.
         socket1.write("< send 7FE 0 >")
         expect(can0, 0x7FE, b"")
         assert any("< error bad id >" in line for line in lines) == OLD_CLIENT, f"logged {lines}"
 
 
 def test_frames_received_have_no_format():
-    """python-can 4.1 takes each frame for a frame with 29 bits"""
+    """python-can 4.1 treats each received frame as a frame with a 29-bit identifier."""
     with serving("can0,can1") as server, client(server, "can0") as can0, client(server, "can1") as can1:
         short, long = passes(can0, can1, 0x123, b""), passes(can0, can1, 0x12345678, b"")
     assert long.is_extended_id and short.is_extended_id == OLD_CLIENT, f"{short} {long}"
 
 
 def test_remote_frames():
-    """python-can up to 4.5 neither sends nor recognises them"""
+    """python-can up to 4.5 neither sends nor recognises remote frames."""
     with serving("can0,can1") as server, client(server, "can0") as can0, logged() as lines:
         socket1 = plain(server, "can1")
         socket1.write("< sendrtr 123 3 >< send 124 1 5 >")
@@ -128,7 +129,7 @@ def test_remote_frames():
         can0.send(message(0x123, is_remote_frame=True, dlc=3))
         can0.send(message(0x125, is_remote_frame=True, dlc=0))
         got = socket1.text()
-        # python-can of Debian 13 does not do this either, and has no version.
+        # The python-can of Debian 13 sends no remote frames either, and has no version number to check.
         if not got.startswith("< remote 123 "):
             assert unknown, f"logged {lines}"
             assert re.fullmatch(r"< frame 125 \S+  >", got), got
@@ -138,7 +139,7 @@ def test_remote_frames():
 
 
 def test_filters_and_periodic_frames():
-    """python-can's filters, Notifier and periodic frames work"""
+    """The filters, the Notifier and the periodic frames of python-can work."""
     with serving("can0,can1") as server, client(server, "can0") as can0:
         seen = []
         enough = threading.Event()
@@ -159,7 +160,7 @@ def test_filters_and_periodic_frames():
 
 
 def test_script_of_faults(tmp_path):
-    """a frame whose last bit fails arrives twice"""
+    """A frame whose last bit fails arrives twice."""
     script = tmp_path / "faults"
     script.write_text("0 lastbit\n")
     with serving(f"can0,can1@{script}") as server, client(server, "can0") as can0, client(server, "can1") as can1:
@@ -170,7 +171,7 @@ def test_script_of_faults(tmp_path):
 
 @pytest.mark.quiet
 def test_connects_to_a_busy_bus():
-    """the first frame is never in the same read as the ok of rawmode"""
+    """The first frame never arrives in the same read as the `< ok >` for `rawmode`."""
     with serving("--pace", "0", "--txqueue", "1024", "can0,can1") as server:
         over = threading.Event()
         sender = plain(server, "can0")
@@ -192,8 +193,8 @@ def test_connects_to_a_busy_bus():
 
 
 def first_frame(server, sender, *pieces):
-    """Returns the seconds from the last of these writes, after which the session is raw, to a frame that is sent
-    then."""
+    """Sends these pieces, of which the last makes the session raw. Then a frame is sent; returns the seconds from the
+    last piece until the frame arrives."""
     one = Plain(server)
     texts = [one.text()]
     for piece in pieces:
@@ -209,8 +210,8 @@ def first_frame(server, sender, *pieces):
 
 
 def test_first_frame_of_a_session():
-    """it comes at once to a client that sends more together with `rawmode`, and 20 ms after a reply that went out
-    separately"""
+    """The first frame comes at once to a client that sends `open` and `rawmode` together, and 20 ms later to a client
+    that waits for a reply between them."""
     with serving("--pace", "0", "can0,can1") as server:
         sender = plain(server, "can0")
         assert min(first_frame(server, sender, "< open can1 >< rawmode >") for _ in range(20)) < 0.015
@@ -218,11 +219,11 @@ def test_first_frame_of_a_session():
 
 
 def test_several_buses():
-    """no frame goes from one bus of two interfaces to the other"""
+    """No frame crosses from one bus to another if a server has two buses."""
     with serving("can0,can1", "can2,can3") as server:
         with contextlib.ExitStack() as stack:
             buses = [stack.enter_context(client(server, f"can{number}")) for number in range(4)]
-            # In the second round a frame of another bus would come before the expected frame.
+            # In the second round, a frame from another bus would arrive before the expected frame.
             for number in (0x100, 0x500):
                 passes(buses[0], buses[1], number, b"\x01")
                 passes(buses[2], buses[3], number + 1, b"\x02")
@@ -238,7 +239,7 @@ def test_several_buses():
 
 
 def candump_log(path, count):
-    """Writes a log of frames, of which 4,000 take a second; returns them as identifiers and data."""
+    """Writes a log with 4,000 frames per second; returns the frames as pairs of identifier and data."""
     frames = []
     with open(path, "w", encoding="ascii") as file:
         for number in range(count):
@@ -251,7 +252,7 @@ def candump_log(path, count):
 
 
 def of_can(module, server, *words):
-    """Returns the words that start the player or the logger of python-can on the server."""
+    """Returns the command that runs the player or the logger of python-can with the server."""
     return [
         sys.executable,
         "-m",
@@ -265,7 +266,7 @@ def of_can(module, server, *words):
 
 
 def logger_runs(server, path):
-    """Starts the logger, and waits until it is connected."""
+    """Starts the logger, and waits until it is connected; returns its process."""
     logger = subprocess.Popen(
         of_can("logger", server, "-c", "can1", "-f", path),
         stdout=subprocess.PIPE,
@@ -279,7 +280,7 @@ def logger_runs(server, path):
 
 
 def bytes_wait(port):
-    """Returns whether bytes are on their way through an open connection to this port."""
+    """Returns whether an open connection to this port has bytes in transit."""
     with open("/proc/net/tcp", encoding="ascii") as file:
         for _, here, there, state, queues, *_ in map(str.split, file):
             ports = here.split(":")[-1], there.split(":")[-1]
@@ -289,7 +290,7 @@ def bytes_wait(port):
 
 
 def logger_ends(server, logger):
-    """Ends the logger after it has taken all the server's frames; returns its standard error."""
+    """Ends the logger after it has received all the server's frames; returns its standard error."""
     assert come_true(
         lambda: server.rests() and not bytes_wait(server.port) and all_sleep([logger.pid]), 3 * WAIT
     ), "the logger does not come to rest"
@@ -298,8 +299,8 @@ def logger_ends(server, logger):
 
 
 def compare_logger(path, frames, warnings):
-    """Compares the logger's output with the frames. The logger loses each frame that one of its reads cuts, and logs
-    that."""
+    """Compares the logger's output with the frames. If a read of the logger ends inside a frame, the logger loses that
+    frame and logs this."""
     got = [(one.arbitration_id, bytes(one.data)) for one in CanutilsLogReader(path)]
     wanted = [(int(text, 16), data) for text, data in frames]
     places = {frame: place for place, frame in enumerate(wanted)}
@@ -310,7 +311,8 @@ def compare_logger(path, frames, warnings):
 
 
 def compare_files(server, frames):
-    """Compares the server's log, read by python-can's reader, and by can-utils' readers that need no kernel CAN."""
+    """Compares the frames with the server's log, as read by python-can's reader and by those readers of can-utils that
+    need no kernel CAN."""
     path = server.path("can0.log")
     with open(path, encoding="ascii") as file:
         lines = [line.split() for line in file]
@@ -337,7 +339,7 @@ def compare_files(server, frames):
     not (shutil.which("log2asc") and shutil.which("log2long")), reason="can-utils' log2asc and log2long are missing"
 )
 def test_player_and_logger():
-    """can.player replays a log, can.logger logs it until Ctrl-C, and the server's log and record agree"""
+    """The server's log and record have the frames that can.player replays, and can.logger logs them until Ctrl-C."""
     with serving("--pace", "0", "--txqueue", "1024", "--rxqueue", "65536", "can0,can1") as server:
         frames = candump_log(server.path("replayed.log"), FRAMES)
         logged = server.path("logged.log")
@@ -364,7 +366,7 @@ def test_player_and_logger():
 
 
 def test_the_first_session():
-    """that of examples/python, whose tests run beside those of the package"""
+    """The first session of examples/python succeeds. The other tests of that folder run with those of the package."""
     with serving("can0,can1") as server:
         words = [sys.executable, os.path.join(ROOT, "examples", "python", "first_session.py"), server.address]
         environment = {**os.environ, "CANBUSD": program()}

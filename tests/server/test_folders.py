@@ -1,5 +1,5 @@
-"""The folder of a server: only one server uses it, a refused start leaves it unchanged, and links in it are not
-followed to plain files."""
+"""Tests the folder of a server: only one server uses it, a refused start leaves it unchanged, and links to plain files
+in it are not followed."""
 
 import itertools
 import os
@@ -15,12 +15,12 @@ WHEN = ("end", "live", "none")
 
 
 def start(folder, *words):
-    """Returns the status, standard output and standard error of a refused start."""
+    """Starts a server that ends at once; returns its status, standard output and standard error."""
     return call(program(), "serve", "--until-eof", "--listen", "127.0.0.1:0", "--out", str(folder), *words)
 
 
 def files_of(folder):
-    """Returns each file with its number, its target or its text, and the time of its last change."""
+    """Returns the inode number, the time of the last change, and the text or link target of each file."""
     found = {}
     for name in os.listdir(folder):
         path, status = os.path.join(folder, name), os.lstat(os.path.join(folder, name))
@@ -33,15 +33,16 @@ def files_of(folder):
 
 
 def leave_old(folder, *names):
-    """Writes files of an earlier run."""
+    """Writes files such as an earlier run leaves."""
     for name in names:
         (folder / name).write_text(f"old {name}\n" * 20)
 
 
 @pytest.mark.parametrize("first, second", itertools.product(WHEN, WHEN))
 def test_one_server_a_folder(first, second, tmp_path):
-    """a second server is refused at once, also with other buses, and changes nothing; it starts after the first has
-    ended"""
+    """A second server is refused at once, even with other buses, and changes nothing. It starts after the first server
+    has ended.
+    """
     leave_old(tmp_path, "can0.log", "can0.rec", "can2.rec.new")
     with serving_alone("--record", first, "can0", out=tmp_path) as server:
         before = files_of(tmp_path)
@@ -64,7 +65,7 @@ def test_a_killed_server_leaves_the_folder_free(tmp_path):
 
 @pytest.mark.parametrize("first, second", [("live", "live"), ("end", "live"), ("none", "end")])
 def test_two_starts_at_once(first, second, tmp_path):
-    """of two starts at the same time exactly one listens, each time"""
+    """If two servers start at the same time, exactly one of them listens."""
     words = [program(), "serve", "--until-eof", "--listen", "127.0.0.1:0", "--out", str(tmp_path), "--record"]
     pipes = {"stdin": subprocess.PIPE, "stdout": subprocess.PIPE, "stderr": subprocess.DEVNULL, "text": True}
     for _ in range(20):
@@ -77,8 +78,9 @@ def test_two_starts_at_once(first, second, tmp_path):
 
 @pytest.mark.parametrize("when", WHEN)
 def test_a_start_that_is_refused(when, tmp_path):
-    """a start is refused because of its second bus: logs and records of earlier runs stay, including those of a killed
-    run"""
+    """If a start is refused because of its second bus, the logs and records of earlier runs stay, including those of a
+    killed run.
+    """
     leave_old(tmp_path, "can0.log", "can0.rec", "can0.rec.new", "can0.log.new", "can2.log")
     (tmp_path / "can2.rec.new").mkdir()
     (tmp_path / "can4.log").mkdir()
@@ -92,7 +94,7 @@ def test_a_start_that_is_refused(when, tmp_path):
 
 @pytest.mark.parametrize("when", ["end", "live"])
 def test_a_fifo_for_a_record(when, tmp_path):
-    """a fifo is refused before the server listens, because the record could not be read again"""
+    """A fifo is refused before the server listens, because a record in it could not be read again."""
     os.mkfifo(tmp_path / "can0.rec")
     said = f"canbusd: cannot open {tmp_path}\n  {tmp_path}/can0.rec: a fifo can't be a record\n"
     assert start(tmp_path, "--record", when, "can0") == (1, "", said)
@@ -101,7 +103,7 @@ def test_a_fifo_for_a_record(when, tmp_path):
 
 @pytest.mark.parametrize("when", WHEN)
 def test_a_fifo_where_files_are_written_first(when, tmp_path):
-    """the fifo is removed, like every file there"""
+    """A fifo at a name that the server writes first is removed, like any other file of that name."""
     os.mkfifo(tmp_path / "can0.rec.new")
     os.mkfifo(tmp_path / "can0.log.new")
     assert start(tmp_path, "--record", when, "can0")[0] == 0
@@ -111,7 +113,7 @@ def test_a_fifo_where_files_are_written_first(when, tmp_path):
 
 @pytest.mark.parametrize("when, target", itertools.product(WHEN, ["others", "nothing"]))
 def test_links_are_not_followed(when, target, tmp_path):
-    """links for logs and records, to a plain file or to nothing, are replaced by the new files"""
+    """Links at the names of logs and records, to a plain file or to nothing, are replaced by the new files."""
     folder, others = tmp_path / "out", tmp_path / "others"
     folder.mkdir()
     others.write_text("of others\n")
@@ -131,12 +133,12 @@ def test_a_link_to_a_device_is_written_to(when, tmp_path):
 
 
 def mode_of(path):
-    """Returns the mode of a file that is no link."""
+    """Returns the mode of a file, without following a link."""
     return stat.S_IMODE(os.lstat(path).st_mode)
 
 
 def test_the_lock_file_of_a_folder(tmp_path):
-    """the lock file is readable only for its user, and is removed with its server"""
+    """The lock file is readable only for its user, and is removed when its server ends."""
     with serving_alone("can0", out=tmp_path) as server:
         assert mode_of(tmp_path / ".canbusd.lock") == 0o600
         server.end()
@@ -144,7 +146,7 @@ def test_the_lock_file_of_a_folder(tmp_path):
 
 
 def test_a_link_is_no_lock_file_of_a_folder(tmp_path):
-    """a link to nothing makes no file"""
+    """A link in place of the lock file is refused, and no file is made at its target."""
     folder = tmp_path / "out"
     folder.mkdir()
     (folder / ".canbusd.lock").symlink_to(tmp_path / "other")
@@ -154,7 +156,8 @@ def test_a_link_is_no_lock_file_of_a_folder(tmp_path):
 
 
 def test_the_lock_file_of_a_path(tmp_path):
-    """the lock file is readable only for its user, and is no link: a link to nothing makes no file"""
+    """The lock file of a socket path is readable only for its user. A link in its place is refused, and no file is made
+    at its target."""
     path, lock = tmp_path / "bus", tmp_path / "bus.lock"
     words = (program(), "serve", "--until-eof", "--listen", str(path), "can0")
     lock.symlink_to(tmp_path / "other")

@@ -1,7 +1,6 @@
-"""Clients of `canbusd serve` that send anything, disconnect at any time, or read nothing.
+"""Tests clients of `canbusd serve` that send anything, disconnect at any time, or read nothing.
 
-After each of them a frame still goes from one session to another on the same bus, and in the end the record is
-audited.
+After each of them a frame still passes between two sessions on the same bus, and at the end the record is audited.
 """
 
 import contextlib
@@ -18,7 +17,7 @@ import pytest
 from serving import WAIT, Pair, Plain, come_true, join, plain, serving_alone, turns
 
 FAST = ("--pace", "0", "--txqueue", "1024")
-# A client's messages to enter raw mode, and its messages in raw mode.
+# The messages with which a client enters raw mode, and further messages in raw mode.
 DIALOGUE = b"< open can1 >< rawmode >< filter 1 123 7FF >< send 124 2 1 2 >< stats >< errmask FF >< send 7FF 0 >"
 WORDS = [
     b"open",
@@ -53,7 +52,7 @@ WORDS = [
     b"load",
     b"echo",
     b"restart",
-    # Fault rules, none of which affects frames of the others.
+    # Words of fault rules. No rule made of them affects frames of other clients.
     b"fault",
     b"faults",
     b"nofaults",
@@ -79,7 +78,7 @@ WORDS = [
 
 @contextlib.contextmanager
 def disturbed(*words, sessions=4000, says="", **how):
-    """A server with two sessions that continue, and the audit of its record at the end."""
+    """Runs a server with two sessions that keep exchanging frames, and audits its record at the end."""
     with serving_alone(*FAST, "--sessions", str(sessions), *words, "can0,can1,can2", **how) as server:
         pair = Pair(server)
         yield server, pair
@@ -93,7 +92,7 @@ def connect(server):
 
 
 def reset(client):
-    """Resets the connection: bytes on their way are lost, and the server gets an error."""
+    """Resets the connection: bytes in transit are lost, and the server gets an error."""
     client.setsockopt(socket.SOL_SOCKET, socket.SO_LINGER, struct.pack("ii", 1, 0))
     client.close()
 
@@ -103,7 +102,7 @@ def gone(client, how):
     if how == "reset":
         reset(client)
     elif how == "half closed":
-        # The server may have closed first: shutdown then fails with ENOTCONN.
+        # If the server has closed the connection first, shutdown fails with ENOTCONN.
         with contextlib.suppress(OSError):
             client.shutdown(socket.SHUT_WR)
             while client.recv(65536):
@@ -124,7 +123,7 @@ def nonsense(rng):
 
 
 def test_random_bytes(rng):
-    """600 clients send random bytes and words, in pieces of any size"""
+    """The server survives 600 clients that send random bytes and words, in pieces of different sizes."""
     with disturbed() as (server, pair):
         for number in range(600):
             client, text = connect(server), nonsense(rng)
@@ -142,7 +141,7 @@ def test_random_bytes(rng):
 
 
 def test_cut_messages():
-    """a dialogue ends at each of its bytes, in three ways"""
+    """The server survives a dialogue that ends after any of its bytes, in each of three ways."""
     with disturbed() as (server, pair):
         for end in range(len(DIALOGUE) + 1):
             for how in ("reset", "closed", "half closed"):
@@ -154,7 +153,7 @@ def test_cut_messages():
 
 
 def test_one_byte_at_a_time():
-    """a dialogue in single bytes gets the usual answers"""
+    """A dialogue that arrives byte by byte gets the usual answers."""
     with disturbed() as (server, pair), contextlib.closing(Plain(server)) as client:
         client.socket.setsockopt(socket.IPPROTO_TCP, socket.TCP_NODELAY, 1)
         for byte in DIALOGUE + b"< close >":
@@ -166,7 +165,7 @@ def test_one_byte_at_a_time():
 
 
 def test_endless_messages():
-    """a million `<`, and a message of a million bytes, are reported once; then the next message is read"""
+    """A message of a million bytes is reported once, a million `<` are skipped, and the next message is read."""
     with disturbed() as (server, pair):
         before = server.memory("VmRSS")
         for text, replies in [
@@ -186,7 +185,7 @@ def test_endless_messages():
 
 
 def test_nobody_takes_the_answers():
-    """a client that sends commands for ever and reads no answer holds up nobody else, and is reset"""
+    """If a client sends commands and reads no answers, the server stops reading from it and still serves other clients."""
     with disturbed() as (server, pair):
         for command in (b"< echo >", b"< x >", b"< open can9 >"):
             client = connect(server)
@@ -202,7 +201,8 @@ def test_nobody_takes_the_answers():
 
 
 def test_slow_readers():
-    """twenty sessions read nothing while 3,000 frames go to them, and then are reset or continue to read"""
+    """Twenty sessions that do not read 3,000 frames delay no other session. Ten of them are reset, and ten then read
+    their frames in order."""
     with disturbed("--rxqueue", "100") as (server, pair):
         slow, sender = [plain(server, "can1") for _ in range(20)], plain(server, "can2")
         assert sender.answer("< filter 0 >") == "< ok >", "the sender"
@@ -222,7 +222,8 @@ def test_slow_readers():
 
 
 def test_silent_connections(rng):
-    """62 connections send nothing, and then 40 more at once; their places are free after they have gone"""
+    """The places of 62 silent connections, and the descriptors of 40 refused ones, are free again after they
+    disconnect."""
     with disturbed() as (server, pair):
         before = server.held()
         for _ in range(3):
@@ -245,7 +246,7 @@ def comes_in(server):
 
 
 def test_storms(rng):
-    """1,500 clients from 16 threads come and go in all ways"""
+    """Frames still pass while 1,500 clients from 16 threads connect and disconnect in all ways."""
     with disturbed() as (server, pair):
         seeds = [rng.randrange(2**32) for _ in range(16)]
         threads = [threading.Thread(target=storm, args=(server, random.Random(seed), 94)) for seed in seeds]
@@ -269,7 +270,7 @@ def storm(server, rng, count):
 
 
 def test_four_thousand_sessions():
-    """one run serves them all, half of them in raw mode with frames; its memory grows only by its record"""
+    """One run serves 4,000 sessions, half of them in raw mode with frames, and its memory grows only by its record."""
     with disturbed() as (server, pair):
         visit(server, 200)
         before = server.memory("VmRSS")
@@ -279,13 +280,13 @@ def test_four_thousand_sessions():
         pair.go_on("3,998 sessions")
         with contextlib.suppress(OSError):
             assert not comes_in(server), "one more comes in"
-    # For half of the sessions the record has four entries, each also in a list of 4 calls.
+    # For half of the sessions the record has four entries, and each entry is also in a list of 4 calls.
     most = (1900 * 4 * 36 + 1900 * 4 * 104) // 1024 + 2048
     assert grown <= most, f"{grown} KB more"
 
 
 def visit(server, count):
-    """Opens this many sessions from 8 threads, every other one in raw mode."""
+    """Opens this many sessions from 8 threads; every second session enters raw mode."""
     failed = []
 
     def come(first):
@@ -314,7 +315,9 @@ def visit(server, count):
 
 
 def test_too_few_descriptors():
-    """for five seconds there are more clients than files for the server; then the remaining sessions are accepted"""
+    """With more clients than file descriptors for five seconds, the server does not spin. It then accepts the remaining
+    sessions.
+    """
 
     def begin():
         resource.setrlimit(resource.RLIMIT_NOFILE, (24, 24))
@@ -333,5 +336,5 @@ def test_too_few_descriptors():
         with contextlib.suppress(OSError):
             while served <= 200 and comes_in(server):
                 served += 1
-        # A connection that can't be accepted is no session, so only the pair and the crowd were sessions.
+        # A connection that could not be accepted is not a session, so only the pair and the crowd count as sessions.
         assert served == 200 - 2 - 60, f"{served} of 138 sessions are left"

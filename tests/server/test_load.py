@@ -1,14 +1,14 @@
-"""`canbusd serve` with faults: 64 sessions on 4 buses, and in the end nothing is lost that is not counted.
+"""Tests `canbusd serve` with faults: of 64 sessions on 4 buses, no frame is lost without being counted.
 
-On each bus of two interfaces 14 sessions send a quarter of the frames (40,000; --frames in the slow test), each
-receives those of three others, and two more break in the middle of what they say, or are reset or half closed, and
-come back. A script gives the attempts every kind of fault, and bursts that take an interface bus off, from which a
-session restarts it. Then:
+On each bus of two interfaces 14 sessions send a quarter of the frames (40,000; --frames in the slow test). Each of them
+receives the frames of three others. Two more sessions break off in the middle of a message, are reset or half closed,
+and come back. A script causes faults of every kind, and bursts of faults that take an interface bus off; a session then
+restarts it. At the end:
 
-- each session got as many items as `stats` says that it took, twice only after a fault of the last bit: those of one
-  session in the order in which it sent them, those of one interface in the order in which the server took them; what
-  it did not get is dropped, and counted so;
-- each interface sent what is done or lost, as the sessions counted it, the record, and `stats`;
+- each session got as many frames and error messages as `stats` counts as taken, and a frame twice only after a fault of
+  the last bit. Frames of one session arrived in the order in which it sent them, and frames of one interface in the
+  order in which the server took them. Frames that a session did not get are counted as dropped;
+- all frames of an interface are done or lost, and the counts of the sessions, the record and `stats` agree;
 - the server ends with status 0, and the audit of each record is ok.
 """
 
@@ -39,7 +39,7 @@ KINDS = [
     "local form {0},{1}",
     "local crc {0},{1}",
 ]
-# Matches an answer; or a frame with its identifier and data, and perhaps its origin; or an error message frame.
+# Matches an answer, a frame (its identifier, its data and perhaps its origin), or an error message frame.
 TEXT = re.compile(
     rb"< (?:(hi|ok|stats [\d ]+|closed \d+ \d+|error [a-z][a-z ]+)|"
     rb"frame (\w+) \S+ (\w*)(?: (same|other) (\d+))?|error \w{3,8} [\d.]+) >"
@@ -51,7 +51,7 @@ def names_of(bus):
 
 
 def write_fault_script(path, names, attempts, rng):
-    """Writes a script with a fault now and then, of each kind, and sometimes 40 in a row."""
+    """Writes a script with occasional faults of each kind, and sometimes 40 faults in a row."""
     with open(path, "w", encoding="utf-8") as file:
         number = 20
         while number < attempts:
@@ -62,11 +62,11 @@ def write_fault_script(path, names, attempts, rng):
 
 
 class Client:
-    """A session that sends frames of its own identifier and gets those of three others.
+    """A session that sends frames with its own identifier and receives those of three other sessions.
 
-    Where it took the place of others that broke, `earlier` is how many: what such a one sent last the server may read
-    after the first frames of the next, so the order is that within a session. Half of the sessions ask for the origin
-    of frames, and see the order within an interface too.
+    `earlier` is the number of broken sessions that had this place before. The server may read the last frames of a
+    broken session after the first frames of the next one, so the order is checked within each session. Half of the
+    sessions ask for the origin of frames, and check the order within an interface too.
     """
 
     def __init__(self, server, place, names, earlier=0):
@@ -87,7 +87,7 @@ class Client:
         self.socket.sendall(text.encode())
 
     def answer(self):
-        """Returns the next text that is no item. Items are counted and checked."""
+        """Returns the next answer. Frames and error messages before it are counted and checked."""
         while not self.answers:
             piece = self.socket.recv(65536)
             assert piece, f"session {self.place} was ended"
@@ -103,7 +103,8 @@ class Client:
         return self.answers.pop(0)
 
     def take(self, sender, data, side, number):
-        """Counts an item; the frames of one session must come in order, and so must those of one interface."""
+        """Counts a frame or an error message, and checks that the frames of each session and of each interface come in
+        order."""
         self.items += 1
         if sender:
             is_copy = self.comes_again((sender, data[:4]), int(data[4:], 16))
@@ -111,27 +112,27 @@ class Client:
             self.copies += is_copy
 
     def comes_again(self, sender, number):
-        """Returns whether the last frame of this sender was the same; fails for an earlier frame."""
+        """Returns whether the last frame of this sender had the same number; fails if it had a higher one."""
         last = self.last.get(sender, -1)
         assert number >= last, f"session {self.place}: frame {number} of {sender} after {last}"
         self.last[sender] = number
         return number == last
 
     def burst(self, count):
-        """Returns this many commands that send the next frames."""
+        """Returns the commands that send the next `count` frames."""
         first = self.sent + self.refused
         numbers = range(first, first + count)
         start = f"< send {identifier(self.place):X} 6 {self.earlier.to_bytes(2, 'big').hex(' ')} "
         return "".join(f"{start}{number.to_bytes(4, 'big').hex(' ')} >" for number in numbers)
 
     def stats(self):
-        """Returns QUEUED DROPPED TAKEN SENT DONE WAITING LOST REFUSED from `stats`, after refusals of sends."""
+        """Sends `stats`; returns its numbers QUEUED DROPPED TAKEN SENT DONE WAITING LOST REFUSED."""
         self.write("< stats >")
         return self.read_stats()
 
     def read_stats(self):
-        """Reads the numbers of `stats`; returns also the number of sends refused before, and whether bus off was the
-        reason."""
+        """Returns the numbers of the next reply to `stats`. Counts the sends that were refused before it, and notes
+        whether bus off was a reason."""
         self.were_off = False
         while not (answer := self.answer()).startswith(b"stats "):
             assert answer in (b"error no buffers", b"error bus off", b"error not bus off", b"ok"), f"{answer}"
@@ -142,7 +143,7 @@ class Client:
         return [int(word) for word in answer.split()[1:]]
 
     def send(self, count):
-        """Sends a number of frames, without those that are refused, and waits until few wait."""
+        """Sends this many frames, some of which may be refused, and waits until few frames wait."""
         text = self.burst(count)
         self.sent += count
         self.write(text + "< stats >")
@@ -156,7 +157,9 @@ class Client:
             waiting = self.stats()[5]
 
     def drain(self):
-        """Waits until no frame waits and all items have come; returns the numbers of `stats` then."""
+        """Waits until no frame waits and all frames and error messages have arrived; returns the numbers of `stats` at
+        that time.
+        """
         until = time.monotonic() + PATIENCE
         while True:
             counts = self.stats()
@@ -178,7 +181,7 @@ def identifier(place):
 
 
 def break_off(server, place, names, rng, is_over):
-    """Runs sessions that break, one after the other; returns their number."""
+    """Runs sessions that break off, one after another; returns the number of sessions."""
     count = 0
     while not is_over.is_set():
         with contextlib.suppress(OSError, AssertionError):
@@ -198,7 +201,7 @@ def break_off(server, place, names, rng, is_over):
 
 
 def take_place(server):
-    """Opens a connection without further requests; the place of a broken session may be free a moment later."""
+    """Opens a connection that sends nothing. The place of a broken session may become free only after a few tries."""
     for _ in turns("a place is free again", PATIENCE):
         client = Plain(server)
         if client.text() == "< hi >":
@@ -239,12 +242,13 @@ class BusLoad:
             self.steps.abort()
 
     def come_and_go(self, place, seed):
-        """Runs sessions that break, one after another."""
+        """Runs sessions that break off, one after another."""
         self.broken.append(break_off(self.server, place, self.names, random.Random(seed), self.is_over))
 
     def go_through(self, breaking):
-        """The steps of all sessions. Those that stay are there before others come and go; once these have ended, and
-        others have all places on every bus, nothing is left of them that the server would read later.
+        """Leads all sessions through the steps of the test. The staying sessions connect before others come and go.
+        After those have ended, new connections take their places on every bus, so the server has nothing of the old
+        ones left to read.
         """
         self.steps.wait(PATIENCE)
         self.buses.wait(PATIENCE)
@@ -327,8 +331,8 @@ class Counted:
 
 @pytest.mark.parametrize("frames", [40_000, pytest.param(None, marks=pytest.mark.slow, id="--frames")])
 def test_load_with_faults(request, tmp_path, frames):
-    """64 sessions on 4 buses, with faults of every kind, and sessions that break and come back, lose nothing
-    uncounted"""
+    """64 sessions on 4 buses, with faults of every kind and sessions that break off and come back, lose nothing that is
+    not counted."""
     frames, seed = frames or request.config.getoption("frames"), request.config.getoption("seed")
     buses = []
     for bus in range(BUSES):

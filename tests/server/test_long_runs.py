@@ -1,11 +1,11 @@
-"""Servers whose logs and records are written while they run, and those without a record.
+"""Tests servers whose logs and records are written while they run, and servers without a record.
 
-Servers under load are killed at random moments (10, with the slow tests 200): what they leave is audited by
-`audit --cut` and by the independent model of record_events.py, and has at least what clients knew twice `--flush` before.
-Disks fill, stop, fail or are slow (failing_disk.c, compiled with cc and loaded with the program), or can't be written.
-After 20 million entries memory is what it was when both blocks of the bus were full, 100,000 sessions leave nothing,
-and a server under a steady load (--minutes) ends with a record that is right. What a record has is compared with that
-of the same dialogue with a server that writes it at its end.
+Servers under load are killed at random times (10 servers, or 200 with the slow tests). Their files are audited by
+`audit --cut` and by the independent model of record_events.py, and have at least what clients knew two `--flush`
+periods before the kill. Disks fill, stop, fail or are slow (failing_disk.c, compiled with cc and preloaded), or can't
+be written. After 20 million entries the memory is what it was when both blocks of the bus were full. 100,000 ended
+sessions leave nothing in memory. A server under a steady load (--minutes) ends with a correct record. A record is also
+compared with that of a server that has the same dialogue and writes its record at the end.
 """
 
 import collections
@@ -34,7 +34,7 @@ pytestmark = pytest.mark.skipif("not writes_live()", reason="the program is olde
 LIVE = ("--record", "live")
 FAST = ("--pace", "0", "--txqueue", "1024", "--rxqueue", "65536", "--write", "16384")
 FLUSH = 0.2
-# Of 64 sessions that a server has at once.
+# The most sessions that end at the same time. A server has places for 64 sessions.
 AT_ONCE = 40
 MOMENT = re.compile(r"\b\d+\.\d{6}\b")
 
@@ -45,7 +45,7 @@ def read(path):
 
 
 def run(*words, **more):
-    """What the program says: status, standard output, standard error."""
+    """Runs the program; returns its status, standard output and standard error."""
     return call(program(), *words, **more)
 
 
@@ -71,7 +71,8 @@ def test_words_that_are_refused(words, tmp_path):
 
 @pytest.mark.parametrize("record", ["live", "none"])
 def test_a_folder_that_cannot_be_written(record, tmp_path):
-    """missing, a file, a place where no file can be made, a log that is a folder: before it listens"""
+    """A folder that is missing, is a file, accepts no files, or has a folder in place of the log is refused before the
+    server listens."""
     (tmp_path / "file").touch()
     (tmp_path / "can0.log").mkdir()
     for folder in (tmp_path / "none", tmp_path / "file", "/proc", tmp_path):
@@ -81,7 +82,7 @@ def test_a_folder_that_cannot_be_written(record, tmp_path):
 
 
 def dialogue(server, has_fd):
-    """The same with each server: each reply and each frame is waited for."""
+    """Has the same dialogue with each server, and waits for each reply and each frame; returns these texts."""
     replies = []
     with contextlib.closing(plain(server, "can0")) as can0, contextlib.closing(plain(server, "can1")) as can1:
         for client in (can0, can1):
@@ -101,7 +102,9 @@ def dialogue(server, has_fd):
 
 @pytest.mark.parametrize("has_fd", [False, True])
 def test_the_record_of_the_same_dialogue(has_fd):
-    """live and at the end: they differ in the first two lines, and the logs do not; nor does what clients get"""
+    """Records written live and at the end differ only in their first two lines. Their logs and the texts to clients are
+    the same.
+    """
     runs = {}
     for record in ("end", "live", "none"):
         with serving_alone(*(() if record == "end" else ("--record", record)), "can0,can1") as server:
@@ -123,7 +126,7 @@ def test_the_record_of_the_same_dialogue(has_fd):
 
 
 def test_each_front_of_a_record_that_a_server_wrote(tmp_path):
-    """cut at each byte: as many entries as it has whole lines after the first two"""
+    """A record that is cut at any byte has as many entries as it has whole lines after the first two."""
     with serving_alone(*LIVE, "can0,can1") as server:
         dialogue(server, has_fd=True)
         server.end()
@@ -131,7 +134,7 @@ def test_each_front_of_a_record_that_a_server_wrote(tmp_path):
             text = file.read()
     assert text.startswith(FRONT.encode()) and len(text) > 10_000
     path = tmp_path / "front"
-    # Each byte of the first lines, and around the end of each other.
+    # Cuts the record at each byte of the first lines, and around the end of each later line.
     ends = [place for place, byte in enumerate(text) if byte == 10]
     for place in [*range(200), *(end + more for end in ends for more in (0, 1))]:
         front = text[:place]
@@ -148,7 +151,8 @@ def test_each_front_of_a_record_that_a_server_wrote(tmp_path):
 
 
 def test_the_files_of_a_run_that_goes_on():
-    """the front from the start; then each line soon after its call; the end line and the name with the end"""
+    """The first lines are there from the start, each later line soon after its call, and the end line and the final
+    name at the end."""
     with serving_alone(*LIVE, "can0,can1", "car0") as server:
         growing = ["can0.log", "can0.rec.new", "car0.log", "car0.rec.new"]
         assert names_in(server.folder) == [".canbusd.lock", *growing]
@@ -169,7 +173,7 @@ def test_the_files_of_a_run_that_goes_on():
 @pytest.mark.parametrize("flush", ["0", "1", "60000"])
 @pytest.mark.parametrize("more", [[], ["--sync"]])
 def test_when_lines_are_handed_over(flush, more):
-    """at once, or at the latest with the end"""
+    """Lines are written out at once, or at the latest when the server ends."""
     with serving_alone(*LIVE, "--flush", flush, *more, "can0,can1") as server:
         pair = Pair(server)
         for _ in range(10):
@@ -197,7 +201,7 @@ def test_tail_follows_the_log():
 
 
 def test_without_a_record_and_a_log():
-    """nothing is written where nothing is asked for"""
+    """A server with neither a record nor a log writes no files."""
     with serving_alone("--record", "none", "can0,can1", out=None) as server:
         pair = Pair(server)
         for _ in range(100):
@@ -207,7 +211,7 @@ def test_without_a_record_and_a_log():
 
 
 def test_what_an_earlier_run_left():
-    """its record is renamed, with a note, and then replaced by that of the run after it"""
+    """The unfinished record of an earlier run is renamed, with a note, and replaces the one that was renamed before it."""
     with tempfile.TemporaryDirectory() as folder:
         path = os.path.join(folder, "can0.rec")
         for text in ("of the first run\n" * 10, "of the second\n" * 10):
@@ -216,7 +220,7 @@ def test_what_an_earlier_run_left():
                     file.write(text)
             with serving_alone(*LIVE, "can0", "can1", out=folder) as server:
                 assert read(f"{path}.cut") == text and read(os.path.join(folder, "can0.log")) == ""
-                # The record before stays until there is another.
+                # The earlier complete record stays until there is a new one.
                 assert read(path) == text
                 server.end(says=f"note: {path}.new of a run that was cut off is {path}.cut now")
             assert run("audit", path) == (0, "ok 0 entries\n", "")
@@ -225,7 +229,8 @@ def test_what_an_earlier_run_left():
 
 @pytest.mark.parametrize("record", ["end", "live"])
 def test_what_a_start_that_failed_left(record, tmp_path):
-    """first lines take the place of nothing: what a run that was killed left before stays, and there is no note"""
+    """A record of a failed start, which has only the first lines, replaces nothing: the record of a killed run stays,
+    and there is no note."""
     text = FRONT + "of a run that was killed\n" * 10
     (tmp_path / "can0.rec.cut").write_text(text)
     (tmp_path / "can0.rec.new").write_text(FRONT)
@@ -237,7 +242,8 @@ def test_what_a_start_that_failed_left(record, tmp_path):
 
 @pytest.mark.parametrize("record", ["end", "live", "none"])
 def test_who_sets_aside_what_an_earlier_run_left(record, tmp_path):
-    """who writes a record, also at the end: that of each bus; and a fault of the address comes before"""
+    """A server that writes a record, live or at the end, sets aside the unfinished record of each bus. It does not do
+    so if its address is refused."""
     texts = {bus: f"of {bus} in a run that was killed\n" * 10 for bus in ("can0", "can1")}
     for bus, text in texts.items():
         (tmp_path / f"{bus}.rec.new").write_text(text)
@@ -258,7 +264,9 @@ def test_who_sets_aside_what_an_earlier_run_left(record, tmp_path):
 @pytest.mark.parametrize("first", ["live", "none"])
 @pytest.mark.parametrize("second", ["end", "live", "none"])
 def test_a_second_server_by_mistake(first, second):
-    """at the same address, or in the same folder: it does not begin, and the files of the first stay as they are"""
+    """A second server at the same address or in the same folder does not start, and the files of the first server stay
+    unchanged.
+    """
     with serving_alone("--record", first, "can0,can1") as server:
         pair, names = Pair(server), names_in(server.folder)
         pair.go_on()
@@ -275,7 +283,7 @@ def test_a_second_server_by_mistake(first, second):
 
 
 class Reader:
-    """What a client got, and when: after how many seconds how many texts."""
+    """Reads the texts that a client gets, and notes the time of each read and the number of texts so far."""
 
     def __init__(self, client):
         self.client, self.moments, self.count = client, [], 0
@@ -288,12 +296,12 @@ class Reader:
                 self.moments.append((time.monotonic(), self.count))
 
     def before(self, moment):
-        """How many texts had come by this moment."""
+        """Returns the number of texts that had arrived at this time."""
         return max((count for when, count in self.moments if when <= moment), default=0)
 
 
 class Load:
-    """A session that sends frames with numbers, at a rate or as fast as it can, and one that receives them."""
+    """A session that sends numbered frames, at a rate or as fast as it can, and a session that receives them."""
 
     def __init__(self, server, many=50, rate=float("inf")):
         self.sender, self.receiver = Reader(plain(server, "can0")), Reader(plain(server, "can1"))
@@ -306,7 +314,7 @@ class Load:
             thread.start()
 
     def send(self):
-        """Sends frames, of which twice `many` are under way at most, so that none is refused."""
+        """Sends frames. At most twice `many` frames are in flight, so that none is refused."""
         begin = time.monotonic()
         with contextlib.suppress(OSError):
             while not self.is_over.is_set():
@@ -318,11 +326,11 @@ class Load:
                     time.sleep(0.0005)
 
     def under_way(self):
-        """How many frames were sent whose reply, or who themselves, have not come."""
+        """Returns the number of frames that were sent, but lack their reply or have not been received."""
         return self.sent - min(self.sender.count, self.receiver.count)
 
     def end(self):
-        """Ends the sessions, or what is left of them."""
+        """Ends both sessions, even if the server is gone."""
         self.is_over.set()
         for one in (self.sender, self.receiver):
             with contextlib.suppress(OSError):
@@ -339,11 +347,11 @@ def spelled(number):
 
 
 def kill_under_load(rng, rate):
-    """A server is killed at a random moment. What it leaves is right, and the next server sets it aside. Returns how many
-    entries it has, and how many sends and receives the clients knew of in time."""
+    """Kills a server at a random time. Checks that its files are correct and that the next server sets its record
+    aside. Returns the number of entries in the record, and of sends and receives that the clients knew of in time."""
     with serving_alone(*LIVE, *FAST, "--flush", str(round(1000 * FLUSH)), "can0,can1") as server:
         load = Load(server, rate=rate)
-        # A moment, and not a wait for something.
+        # This is a random time, not a wait for an event.
         time.sleep(rng.uniform(0, 1))
         killed = time.monotonic()
         server.child.kill()
@@ -373,7 +381,8 @@ def kill_under_load(rng, rate):
 
 
 def set_aside(server, path, text):
-    """The next server in the folder of one that was killed keeps its record, and says so; it takes and removes the lock file."""
+    """Checks that the next server in the folder of a killed one keeps its record, reports this, and takes over and
+    removes the lock file."""
     with serving_alone(*LIVE, "can0,can1", out=server.folder) as after:
         aside = f"{server.folder}/can0.rec.cut"
         after.end(says=f"note: {path} of a run that was cut off is {aside} now")
@@ -382,7 +391,8 @@ def set_aside(server, path, text):
 
 
 def compare_log(log, entries):
-    """The log has the lines of the attempts, as far as it reaches: one is the front of the other. Returns how many."""
+    """Compares the lines of the log with the attempts of the record. One list may be longer than the other. Returns the
+    number of lines of the log."""
     lines = log[: log.rfind("\n") + 1].splitlines()
     tried = [entry.split(" ") for entry in entries if " = tried " in entry]
     wanted = [f"({words[1]:0>17}) can{words[5]} {words[7]}" for words in tried]
@@ -394,7 +404,8 @@ def compare_log(log, entries):
 @pytest.mark.quiet
 @pytest.mark.parametrize("kills", [10, pytest.param(200, marks=pytest.mark.slow)])
 def test_kills_at_random_moments(rng, kills):
-    """under a load that the server can carry, so that its files are not late: 15,000 entries a second"""
+    """Killed servers leave correct files that are not late, under a load of 15,000 entries a second that the server can
+    carry."""
     runs = [kill_under_load(rng, 5000) for _ in range(kills)]
     entries = [one[0] for one in runs]
     print(f"{kills} kills, after {min(entries)} to {max(entries)} entries")
@@ -403,26 +414,28 @@ def test_kills_at_random_moments(rng, kills):
 
 @pytest.mark.parametrize("kills", [2, pytest.param(20, marks=pytest.mark.slow)])
 def test_kills_at_full_speed(rng, kills):
-    """as fast as it can: its files may be late, and are right all the same"""
+    """Servers that are killed at full speed leave correct files, which may be late."""
     entries = [kill_under_load(rng, float("inf"))[0] for _ in range(kills)]
     print(f"{kills} kills, after {min(entries)} to {max(entries)} entries")
 
 
 def settings_of_the_service():
-    """What contrib/canbusd.service sets."""
+    """Returns the settings in contrib/canbusd.service."""
     with open(os.path.join(ROOT, "contrib", "canbusd.service"), encoding="utf-8") as unit:
         return dict(re.findall(r"^(\w+)=(.*)$", unit.read(), re.M))
 
 
 def test_the_service_talks_to_this_machine_only():
-    """It listens at the default address, which is 127.0.0.1, and the system takes no packets of others, nor sends any."""
+    """The service listens at the default address, 127.0.0.1, and the system lets it exchange packets with no other
+    machine."""
     settings = settings_of_the_service()
     assert "--listen" not in settings["ExecStart"] + settings["Environment"]
     assert (settings["IPAddressDeny"], settings["IPAddressAllow"]) == ("any", "localhost")
 
 
 def test_the_service_keeps_what_the_run_before_it_left(tmp_path):
-    """what it runs before each start: files of one run are moved together, and where there are none those are kept"""
+    """Before each start the service moves all files of the last run together. If there are none, the files moved before
+    stay."""
     settings = settings_of_the_service()
     before = shlex.split(settings["ExecStartPre"].replace("$$", "$"))
 
@@ -438,7 +451,7 @@ def test_the_service_keeps_what_the_run_before_it_left(tmp_path):
     assert moves() == []
     killed = ["can0.log", *(f"can0.rec{one}" for one in (".cut", ".faults.cut", ".faults.new", ".new")), "car0.log"]
     assert moves(*killed) == killed and moves() == killed
-    # A start that failed leaves the first lines of records.
+    # A failed start leaves records that have only their first lines.
     script = "# a script\n" * 100
     failed = [("can0.rec.new", FRONT), ("can0.rec.faults.new", script), ("car0.rec.cut", FRONT)]
     for name, text in [("can0.log", ""), *failed]:
@@ -447,14 +460,14 @@ def test_the_service_keeps_what_the_run_before_it_left(tmp_path):
     assert sorted(os.listdir(tmp_path / "previous")) == killed
     for name in ("can0.log", *(name for name, _ in failed)):
         (tmp_path / name).unlink()
-    # A log of one line, of a server without a record.
+    # A server without a record leaves only a log, here with one line.
     (tmp_path / "can0.log").write_text("(0000000000.000001) can0 123#\n")
     subprocess.run(before, cwd=tmp_path, check=True)
     assert os.listdir(tmp_path / "previous") == ["can0.log"]
     whole = ["can0.log", "can0.rec", "can0.rec.faults", "car0.log", "car0.rec"]
     assert moves(*whole) == whole
     assert (tmp_path / "previous" / "can0.rec").read_text().startswith(f"can0.rec {tuple(whole)}\n")
-    # The words of the program are those of a server.
+    # The command line of the service starts a server.
     variables = dict(word.split("=", 1) for word in shlex.split(settings["Environment"]))
     words = (
         settings["ExecStart"].replace("$OPTIONS", variables["OPTIONS"]).replace("$BUSES", variables["BUSES"]).split()
@@ -468,7 +481,7 @@ def test_the_service_keeps_what_the_run_before_it_left(tmp_path):
 
 
 def test_a_run_after_one_that_was_killed():
-    """in the same folder: its record is audited under the other name"""
+    """The unfinished record of a killed run can be audited under its new name after a later run in the same folder."""
     with tempfile.TemporaryDirectory() as folder:
         path = os.path.join(folder, "can0.rec")
         with serving_alone(*LIVE, "--flush", "0", "can0,can1", out=folder) as server:
@@ -484,7 +497,8 @@ def test_a_run_after_one_that_was_killed():
 
 
 def not_whole(server, name="can0.rec.new"):
-    """How many entries the server says that this record has, at once, without an end."""
+    """Returns the number of entries that the server reports for this unfinished record, or None if it has reported
+    nothing."""
     found = re.search(
         rf"^canbusd: write fault\n  \S*{re.escape(name)}: .+\n  it has the first (\d+) entries, and no end$",
         server.said(),
@@ -494,7 +508,7 @@ def not_whole(server, name="can0.rec.new"):
 
 
 def may_grow(most):
-    """Lets files grow to a number of bytes; then writes are refused."""
+    """Returns a function that limits the size of files to this many bytes; larger writes are refused."""
 
     def begin():
         signal.signal(signal.SIGXFSZ, signal.SIG_IGN)
@@ -504,7 +518,7 @@ def may_grow(most):
 
 
 def fill(server, pair, *ready):
-    """Sends frames until the server has said what it has to; then the bus still goes on."""
+    """Sends frames until all of `ready` return a value, and then checks that the bus still works."""
     for _ in turns("the disk is full, and nothing is said", 3 * WAIT):
         for _ in range(100):
             pair.go_on()
@@ -515,9 +529,10 @@ def fill(server, pair, *ready):
 
 
 def test_files_that_grow_to_a_limit():
-    """each ends at a whole line, its server says how many it has, and the bus goes on"""
+    """A file that reaches a size limit ends at a whole line, the server reports how much the file has, and the bus goes
+    on."""
     most = 20_000
-    # Its own standard error is bounded too, and long enough.
+    # The limit also applies to the server's standard error, which stays shorter.
     with serving_alone(*LIVE, "--pace", "0", "can0,can1", "car0,car1", preexec_fn=may_grow(most)) as server:
         pair, other = Pair(server), Pair(server, "car0", "car1")
         other.go_on()
@@ -527,19 +542,21 @@ def test_files_that_grow_to_a_limit():
         assert status == 1
         assert int(re.match(r"bus can0 entries (\d+)\n", written)[1]) > entries
         check_cut(server.folder, entries, lines, most)
-        # The other bus's files are whole.
+        # The files of the other bus are complete.
         assert names_in(server.folder) == ["can0.log", "can0.rec.new", "car0.log", "car0.rec"]
         assert server.audited("car0.rec") >= 3 and read(server.path("car0.log")).count("\n") == 1
 
 
 def log_lines(server):
-    """How many lines the server says that the log has which could not be written."""
+    """Returns the number of lines that the server reports for a log that it could not write, or None if it has reported
+    nothing."""
     found = re.search(r"^canbusd: log of can0: (\d+) whole lines$", server.said(), re.M)
     return int(found[1]) if found else None
 
 
 def check_cut(folder, entries, lines, most):
-    """What is left of files that could grow no more: whole lines, as many as was said, and no record that looks whole."""
+    """Checks files that could grow no further: they have whole lines, as many as reported, and no record looks
+    complete."""
     record, log = os.path.join(folder, "can0.rec.new"), os.path.join(folder, "can0.log")
     for path in (record, log):
         assert read(path).endswith("\n") and most - 300 <= os.path.getsize(path) <= most, path
@@ -549,7 +566,7 @@ def check_cut(folder, entries, lines, most):
 
 
 def test_a_log_on_a_full_device():
-    """it is reported at once; the record is whole"""
+    """A log on a full device is reported at once, and the record is complete."""
     with tempfile.TemporaryDirectory() as folder:
         os.symlink("/dev/full", os.path.join(folder, "can0.log"))
         with serving_alone(*LIVE, "--pace", "0", "can0,can1", out=folder) as server:
@@ -566,18 +583,18 @@ def test_a_log_on_a_full_device():
 
 
 class SmallDisk:
-    """A file system of this size in kilobytes, which the user may mount in a name space of the user's own."""
+    """A file system of this size in kilobytes, which a user without root rights may mount in a namespace."""
 
     def __init__(self, kilobytes, folder):
         script = 'mount -t tmpfs -o size="$1"k none "$2" && echo mounted && exec cat'
         words = ["unshare", "--user", "--map-root-user", "--mount", "sh", "-c", script, "sh", str(kilobytes), folder]
         self.holder = subprocess.Popen(words, stdin=subprocess.PIPE, stdout=subprocess.PIPE, stderr=subprocess.DEVNULL)
         self.is_there = self.holder.stdout.readline() == b"mounted\n"
-        #: The folder, from outside.
+        #: The path of the folder from outside the namespace.
         self.folder = f"/proc/{self.holder.pid}/root{folder}"
 
     def launcher(self, folder):
-        """A program that is canbusd in there."""
+        """Writes a script that runs canbusd inside the namespace; returns its path."""
         path = os.path.join(folder, "inside")
         enter = f"nsenter --preserve-credentials --user --mount --target {self.holder.pid}"
         with open(path, "w", encoding="utf-8") as file:
@@ -591,7 +608,7 @@ class SmallDisk:
 
 @pytest.fixture
 def disk():
-    """A file system of 128 kilobytes."""
+    """Yields a file system of 128 kilobytes, and its folder."""
     with tempfile.TemporaryDirectory() as folder:
         found = SmallDisk(128, folder) if shutil.which("unshare") and shutil.which("nsenter") else None
         try:
@@ -604,7 +621,8 @@ def disk():
 
 
 def test_a_disk_that_is_full(disk, tmp_path):
-    """the same on a disk, which several files share"""
+    """On a full disk that several files share, the record ends at a whole line, the server reports this, and the bus
+    goes on."""
     small, folder = disk
     launcher, stdin = small.launcher(tmp_path), subprocess.PIPE
     with serving(
@@ -612,7 +630,7 @@ def test_a_disk_that_is_full(disk, tmp_path):
     ) as server:
         pair = Pair(server)
         pair.go_on()
-        # Of what goes out at once the record may take all that there is.
+        # Waits for the first line of the log now, because the record may later take all the space.
         assert come_true(lambda: read(os.path.join(small.folder, "can0.log")).count("\n") == 1), "no line of the log"
         fill(server, pair, lambda: not_whole(server))
         assert "No space left on device" in server.said()
@@ -629,7 +647,7 @@ def test_a_disk_that_is_full(disk, tmp_path):
 
 
 class Pipe:
-    """A pipe in the place of a file, which is read only when a test wants that."""
+    """A pipe in place of a file. A test reads it only when it wants to."""
 
     def __init__(self, path):
         os.mkfifo(path)
@@ -645,18 +663,20 @@ class Pipe:
 
 @pytest.fixture
 def pipe():
-    """A folder with a pipe in the place of the log."""
+    """Yields a pipe in place of the log, and its folder."""
     with tempfile.TemporaryDirectory() as folder, contextlib.closing(Pipe(os.path.join(folder, "can0.log"))) as made:
         yield made, folder
 
 
 def waited(path):
-    """What a server may say whose log was not read in time: that once in a minute."""
+    """Returns a pattern for the notes of a server whose log is not read in time: one note a minute."""
     return rf"note: bus can0: waits for {re.escape(path)}(\n[^\n]+ waits for {re.escape(path)})*"
 
 
 def test_a_log_whose_reader_goes(pipe):
-    """it is reported at once, with as many lines as it took; the record is whole"""
+    """If the reader of a log goes away, this is reported at once, with the number of lines in the log, and the record
+    is complete.
+    """
     log, folder = pipe
     with serving_alone(*LIVE, "--flush", "0", "can0,can1", out=folder) as server:
         pair = Pair(server)
@@ -676,7 +696,8 @@ def test_a_log_whose_reader_goes(pipe):
 
 
 def test_a_folder_that_is_moved():
-    """its files go on, and the record does not get its name, which is reported; the lock file is where it went"""
+    """A server whose folder is moved goes on writing, and reports that it can't rename its record. The lock file stays
+    in the moved folder."""
     with tempfile.TemporaryDirectory() as room:
         folder, other = os.path.join(room, "one"), os.path.join(room, "other")
         os.mkdir(folder)
@@ -695,7 +716,8 @@ def test_a_folder_that_is_moved():
 
 
 def test_what_is_there_in_the_place_of_a_file(tmp_path):
-    """a link where the record is written is removed; where a file can't be written it does not begin to listen"""
+    """A link at the name where the record is written is removed. A server that can't write one of its files does not
+    listen."""
     other = tmp_path / "other"
     other.write_text("of another\n")
     folder = tmp_path / "linked"
@@ -722,7 +744,7 @@ NO_END = 2**63
 
 
 class Disk:
-    """A disk whose calls fail when the test wants that, for a program that failing_disk.c is loaded into."""
+    """A disk whose calls fail when a test wants that. The tested program has failing_disk.c preloaded."""
 
     def __init__(self, folder):
         self.folder = folder
@@ -737,11 +759,11 @@ class Disk:
             self.plan = mmap.mmap(file.fileno(), 48)
 
     def made(self, call):
-        """How often the program has made this call."""
+        """Returns how often the program has made this call."""
         return struct.unpack_from("=Q", self.plan, 16 * call)[0]
 
     def allow(self, call, more):
-        """Lets it make this call that many times more."""
+        """Lets the program make this call `more` times; later calls fail."""
         struct.pack_into("=Q", self.plan, 16 * call + 8, self.made(call) + more)
 
 
@@ -755,7 +777,7 @@ def failing(tmp_path):
 
 
 def test_when_the_disk_has_what_was_written(failing):
-    """with --sync before anything else is written, and else never"""
+    """With --sync a server syncs what it has written before it writes anything else. Without --sync it never syncs."""
     for more in ([], ["--sync"]):
         before = failing.made(SYNC)
         with serving_alone(*LIVE, "--flush", "0", *more, "can0,can1", env=failing.environment) as server:
@@ -763,7 +785,7 @@ def test_when_the_disk_has_what_was_written(failing):
             for number in range(1, 6):
                 pair.go_on()
                 assert come_true(lambda: read(server.path("can0.log")).count("\n") == number), "no line of the log"
-                # The record's come before, and the log's may be to come.
+                # The record is synced first, and the sync of the log may not have happened yet.
                 assert not more or failing.made(SYNC) - before >= 2 * number - 1
             server.end()
         assert (failing.made(SYNC) - before >= 10) == bool(more), f"{more}: {failing.made(SYNC) - before}"
@@ -772,7 +794,7 @@ def test_when_the_disk_has_what_was_written(failing):
 @pytest.mark.parametrize("call", [WRITE, SYNC])
 @pytest.mark.parametrize("is_cut", [True, False])
 def test_a_disk_that_fails(failing, call, is_cut):
-    """both files are reported at once, with whole lines, as many as was said; the bus goes on"""
+    """Both files are reported at once, and have as many whole lines as the server reports; the bus goes on."""
     with serving_alone(*LIVE, "--sync", "--flush", "0", "can0,can1", env=failing.environment) as server:
         pair = Pair(server)
         for _ in range(5):
@@ -788,7 +810,7 @@ def test_a_disk_that_fails(failing, call, is_cut):
         entries, lines = not_whole(server), log_lines(server)
         status, written = server.finish()
         assert status == 1 and int(written.split()[-1]) > entries
-        # Each once, whatever came after the fault.
+        # Each file is reported once, whatever happens after its fault.
         faults = [line for line in server.said().splitlines() if line.startswith("canbusd: ")]
         assert sorted(faults) == [f"canbusd: log of can0: {lines} whole lines", "canbusd: write fault"]
         assert names_in(server.folder) == ["can0.log", "can0.rec.new"]
@@ -798,11 +820,11 @@ def test_a_disk_that_fails(failing, call, is_cut):
 
 
 def test_a_disk_that_is_slow(failing):
-    """that its files are waited for is noted once in a minute, though each write takes longer than a second"""
+    """A server notes at most once a minute that it waits for its files, even if each write takes longer than a second."""
     environment = {**failing.environment, "DISK_MILLIS": "1100"}
     begun = time.monotonic()
     with serving_alone(*LIVE, "--flush", "0", "can0,can1", env=environment) as server:
-        # Before the line of the log is written the record's are, and each of the two writes is late.
+        # The record is written before the log's line, and each of the two writes is late.
         Pair(server).go_on()
         assert come_true(lambda: read(server.path("can0.log")).count("\n") == 1), "no line of the log"
         status, _ = server.finish(patience=3 * WAIT)
@@ -814,7 +836,9 @@ def test_a_disk_that_is_slow(failing):
 
 @pytest.mark.slow
 def test_a_disk_that_stands_still(pipe):
-    """a log that nobody reads: calls wait and nothing is lost; once it is read all goes on, and it is reported"""
+    """If nobody reads the log, calls wait and nothing is lost. Once the log is read everything continues, and the wait
+    is reported.
+    """
     log, folder = pipe
     with serving_alone("--record", "none", *FAST, "can0,can1", out=folder) as server:
         load = Load(server, many=400)
@@ -835,7 +859,8 @@ def test_a_disk_that_stands_still(pipe):
 
 
 def wait_for_stall(load):
-    """Waits until no client gets anything for a while, though there are sends; returns how many had their replies."""
+    """Waits until no client gets anything for a while, although frames are in flight; returns the number of replies to
+    sends."""
     before, looks = -1, 0
     for _ in turns("it makes no more calls", 6 * WAIT):
         count = load.sender.count + load.receiver.count
@@ -848,13 +873,13 @@ def wait_for_stall(load):
 
 @pytest.mark.slow
 def test_memory_of_a_run_without_a_record(pipe):
-    """after 20 million entries it is what it was once both its blocks were full"""
+    """After 20 million entries the memory is what it was when both blocks of the bus were first full."""
     log, folder = pipe
     words = ["--record", "none", "--pace", "0", "--txqueue", "1024", "--rxqueue", "4096", "--write", "16384"]
     with serving_alone(*words, "can0,can1", out=folder) as server:
         load = Load(server, many=500)
-        # The bus fills the one block while the log waits with the other. The bus goes on once they are exchanged, and the log
-        # waits with what is full.
+        # The bus fills one block while the log waits with the other block. Then they are exchanged: the bus goes on,
+        # and the log waits with the full block.
         count = wait_for_stall(load)
         for _ in log.pieces():
             if load.sender.count > count:
@@ -879,7 +904,7 @@ def test_memory_of_a_run_without_a_record(pipe):
 
 @pytest.mark.parametrize("record", ["live", "none"])
 def test_more_sessions_than_a_run_has_that_ends(record):
-    """4,000 are the most of a server that writes its record at the end"""
+    """A server can have more than 4,000 sessions if it does not write its record at the end."""
     with serving_alone("--record", record, "--sessions", "4100", "can0,can1") as server:
         come_and_go(server, 4099)
         assert server.child.poll() is None
@@ -891,7 +916,8 @@ def test_more_sessions_than_a_run_has_that_ends(record):
 
 @pytest.mark.parametrize("record", ["live", "none"])
 def test_a_session_counts_once_it_is_raw(record):
-    """those that only look do not count; one that gets there after the last is closed, and the server ends with its sessions"""
+    """Only sessions in raw mode count for --sessions. A session that enters raw mode after the last one is closed, and
+    the server ends with its sessions."""
     with serving_alone("--record", record, "--sessions", "1", "can0,can1") as server:
         for _ in range(3):
             looks = Plain(server)
@@ -909,8 +935,9 @@ def test_a_session_counts_once_it_is_raw(record):
 
 
 def come_and_go(server, count):
-    """That many sessions, each of which opens an interface and closes it. Its place is free once its client sees the end,
-    which takes some 20 milliseconds; meanwhile others come, of which no more are there than a server has at once."""
+    """Opens this many sessions, each of which opens an interface and closes it. A place is free again after its client
+    sees the end of the session, some 20 milliseconds later. Until then others connect, but never more than a server has
+    places for."""
     leaving = collections.deque()
     for _ in range(count):
         client = plain(server, "can0")
@@ -923,14 +950,14 @@ def come_and_go(server, count):
 
 
 def see_off(client):
-    """A client sees the end of its session."""
+    """Checks that a client sees the end of its session."""
     assert client.text() == ""
     client.close()
 
 
 @pytest.mark.slow
 def test_what_many_sessions_leave():
-    """100,000 that have gone leave nothing: no memory, no threads, no open files"""
+    """100,000 ended sessions leave no memory, threads or open files behind."""
     with serving_alone("--record", "none", "--sessions", "4294967295", "can0,can1") as server:
         held = server.held()
         come_and_go(server, 10_000)
@@ -945,10 +972,10 @@ def test_what_many_sessions_leave():
 
 @pytest.mark.slow
 def test_a_steady_load(request):
-    """--entries a second for --minutes, and a record that is right"""
+    """A server under a load of --entries a second for --minutes ends with a correct record."""
     rate, seconds = request.config.getoption("entries"), 60 * request.config.getoption("minutes")
     with serving_alone(*LIVE, *FAST, "can0,can1") as server:
-        # Each frame is a send, an attempt and a receive.
+        # Each frame makes three entries: a send, an attempt and a receive.
         load = Load(server, many=100, rate=rate / 3)
         time.sleep(seconds)
         load.end()
@@ -961,5 +988,5 @@ def test_a_steady_load(request):
 
 
 def run_long(*words):
-    """What the program writes, however long that takes."""
+    """Returns the output of the program, however long it runs."""
     return subprocess.run([program(), *words], capture_output=True, text=True, check=True).stdout

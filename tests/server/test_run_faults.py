@@ -1,8 +1,9 @@
-"""The faults of a run that `serve --out` writes beside a record, NAME.rec.faults: who reads it knows each rule of the run.
+"""Tests the fault rules that `serve --out` writes next to a record in NAME.rec.faults, so that a reader knows each rule
+of the run.
 
-A run by hand, byte for byte; sessions that give and end rules while others send, where rule_model.py decides each attempt of the
-record by that file; servers that are killed; and what a folder has before and after. What the lines mean is tried in
-test_audit_rules.py.
+The tests are a run by hand, byte for byte; sessions that add and end rules while others send, where rule_model.py
+decides each attempt of the record by that file; killed servers; and the files of a folder before and after a run.
+test_audit_rules.py tests what the lines mean.
 """
 
 import contextlib
@@ -27,18 +28,18 @@ from serving import ROOT, WAIT, Plain, come_true, join, plain, program, serving_
 WHEN = ("end", "live")
 LIVE = ("--record", "live", "--flush", "0")
 SCRIPT = "always id 7DF good\n"
-#: How many bytes of lines of a bus wait at most to be written.
+#: How many bytes of lines of a bus may wait to be written.
 MOST_BYTES = 64 << 20
 
 
 def read(path):
-    """The text of a file, byte for byte."""
+    """Returns the text of a file with unchanged line ends."""
     with open(path, encoding="utf-8", newline="") as file:
         return file.read()
 
 
 def whole_lines(path):
-    """The lines of a file that may be torn at its end; none where there is no file."""
+    """Returns the whole lines of a file that may be torn at its end, or an empty text if there is no file."""
     if not os.path.exists(path):
         return ""
     text = read(path)
@@ -46,19 +47,19 @@ def whole_lines(path):
 
 
 def start(folder, *words, **more):
-    """The status, the output and the errors of a server that ends at once."""
+    """Starts a server that ends at once; returns its status, output and errors."""
     options = "--until-eof", "--listen", "127.0.0.1:0", "--out", str(folder)
     return call(program(), "serve", *options, *words, **more)
 
 
 def give(client, rule):
-    """The answer to one who gives this rule."""
+    """Gives this rule to the server; returns the answer."""
     return client.answer(f"< fault {rule} >")
 
 
 class Written(RunFaults):
-    """The faults of a run as a server writes them. Each line says what was done: for each rule there was a place, and where rules
-    were ended some were left."""
+    """The faults of a run as a server writes them. Each line must have had an effect: a new rule had a place, and a
+    line that ends rules found at least one."""
 
     def take(self, rule):
         assert len(self.rules) < MOST_RULES, f"{rule} was not taken"
@@ -70,8 +71,8 @@ class Written(RunFaults):
 
 
 def decided(record, faults, names):
-    """The rules that decide the attempts of a record by these faults, empty where none does. Each attempt has to have the verdict
-    that the model decides."""
+    """Returns the rules that decide the attempts of a record with these faults; the rule is empty if none decides.
+    Checks that each attempt has the verdict of the model."""
     model, found = Written(faults, names), []
     for line in record.splitlines():
         words = line.split(" ")
@@ -84,16 +85,17 @@ def decided(record, faults, names):
 
 
 def audited(record, faults, names):
-    """The rules that the audit says of these files."""
+    """Returns the rules that the audit reports for the attempts of these files."""
     words = "--events", "--cut", "--faults", f"{','.join(names)}@{faults}"
     status, events, errors = call(program(), "audit", *words, "--", str(record))
     assert status == 0, errors
     return rules_of(events)
 
 
-# A run by hand. Rules 1 and 2 are in the script, which has no LF at its end. Attempt 0 is that of rule 1, attempt 1 that of the line
-# by its number, and attempt 2 is good. Attempt 3 is that of rule 3, the first that was given, and attempt 4 is good. Then rules 2 and
-# 4 are ended, so attempt 5 is good. Attempt 6 is that of rule 5, and attempt 7 is good.
+# A run by hand. Rules 1 and 2 are in the script, which has no LF at its end. Rule 1 decides attempt 0, the numbered
+# line decides attempt 1, and attempt 2 is good. Rule 3, the first rule given by a client, decides attempt 3, and
+# attempt 4 is good. Then rules 2 and 4 are ended, so attempt 5 is good. Rule 5 decides attempt 6, and attempt 7 is
+# good.
 BY_HAND = """# of a morning: \u00e9t\u00e9
 
 next 1 from ecu lastbit
@@ -109,13 +111,13 @@ at 8 always good
 
 @pytest.mark.parametrize("when", WHEN)
 def test_a_run(when, tmp_path):
-    """with the bytes of its file, and with buses that have another one and none"""
+    """The faults of a run begin with the bytes of its script, even if another bus has other faults or none."""
     (tmp_path / "my.script").write_text(BY_HAND, encoding="utf-8")
     words = LIVE if when == "live" else ()
     with serving_alone(*words, f"ecu,tester@{tmp_path}/my.script", "car0,car1", "body0") as server:
 
         def grows(name, text):
-            """Whether this file has this text by now, where it is written while the server runs."""
+            """Returns whether this file gets this text; always true for a server that writes its files at its end."""
             path = server.path(f"{name}.rec.faults.new")
             return when == "end" or come_true(lambda: whole_lines(path) == text)
 
@@ -127,7 +129,7 @@ def test_a_run(when, tmp_path):
         assert grows("ecu", f"{BY_HAND}\n" + "".join(GIVEN.splitlines(True)[:2]))
         ecu.write("< send 123 0 >")
         assert tester.frame() == ("123", b"")
-        # There are none left to be ended again.
+        # The second `nofaults` finds no rules, so it writes no line.
         assert [ecu.answer("< nofaults >"), tester.answer("< nofaults >")] == ["< ok >"] * 2
         assert give(ecu, "next 0 good") == "< error bad rule >"
         assert give(ecu, "next 1 from car0 good") == "< error no such interface >"
@@ -164,7 +166,7 @@ def test_a_run(when, tmp_path):
     ids=["rule", "line", "blank", "comment", "several"],
 )
 def test_the_script_of_the_start(when, script, written, tmp_path):
-    """is there as it was read, whatever becomes of its file, with an LF at its end"""
+    """The faults have the script as it was read at the start, with an LF at its end, even if its file changes later."""
     (tmp_path / "my.script").write_text(script, encoding="utf-8")
     with serving_alone("--record", when, f"can0@{tmp_path}/my.script", out=tmp_path) as server:
         (tmp_path / "my.script").write_text("1 global bit\n")
@@ -174,7 +176,7 @@ def test_the_script_of_the_start(when, script, written, tmp_path):
 
 @pytest.mark.parametrize("when", WHEN)
 def test_without_faults(when):
-    """rules that are refused, and rules that are ended where there are none, make no file"""
+    """Rules that are refused, and `nofaults` without a rule, make no file."""
     with serving_alone("--record", when, "can0,can1") as server:
         one, other = plain(server, "can0"), plain(server, "can1")
         one.write("< send 123 0 >")
@@ -189,7 +191,8 @@ def test_without_faults(when):
 
 @pytest.mark.parametrize("when", WHEN)
 def test_rules_that_are_used_up(when):
-    """they are not left, so there is nothing to end; and of 64 rules and one more that is refused 64 are written"""
+    """`nofaults` writes no line if all rules are used up. If 64 rules are accepted and one more is refused, 64 are
+    written."""
     with serving_alone("--record", when, "can0,can1") as server:
         one, other = plain(server, "can0"), plain(server, "can1")
         assert give(one, "next 2 lastbit") == "< ok >"
@@ -201,7 +204,7 @@ def test_rules_that_are_used_up(when):
         assert give(one, "next 65 good") == "< error too many rules >"
         one.write("< send 123 0 >")
         assert other.frame() == ("123", b"")
-        # The first of the rules is used up.
+        # The frame has used up the first rule, so one more rule fits.
         assert [give(one, f"next {number} good") for number in (66, 67)] == ["< ok >", "< error too many rules >"]
         server.end()
         assert read(server.path("can0.rec.faults")) == "".join(
@@ -211,7 +214,7 @@ def test_rules_that_are_used_up(when):
 
 @pytest.mark.parametrize("when", WHEN)
 def test_attempts_without_a_frame_are_not_counted(when, tmp_path):
-    """those in which an interface that is off waits for its restart"""
+    """Attempts in which an interface in bus off waits for its restart are not counted, because they have no frame."""
     (tmp_path / "my.script").write_text("next 32 global bit")
     words = ["--record", when, "--auto-restart", "5", f"can0,can1@{tmp_path}/my.script"]
     with serving_alone(*words) as server:
@@ -229,17 +232,17 @@ def test_attempts_without_a_frame_are_not_counted(when, tmp_path):
 # Sessions that give and end rules while others send.
 
 BUSES = {"ecu": ["ecu", "tester", "gw"], "0": ["0", "next"]}
-#: Frames without a pause, with one, and with the time of their bits.
+#: Options for frames without a pause, with a pause, and with the time that their bits take.
 PACES = [("--pace", "0"), ("--pace", "1"), ("--bitrate", "1000000"), ("--bitrate", "50000", "--dbitrate", "1000000")]
 
 
 class Crowd:
-    """Sessions on the buses of a server, each in a thread: two that send at each interface, and two at each bus that give and end
-    rules until these have sent all."""
+    """Sessions on the buses of a server, each in a thread. Two sessions send at each interface. Two sessions on each
+    bus add and end rules until all frames were sent."""
 
     def __init__(self, server, rng, rounds):
         self.is_over, self.faults = threading.Event(), []
-        #: The rules that each bus took, and how often rules were ended there, by the first interface.
+        #: The rules that each bus accepted, and how often its rules were ended, by the bus's first interface.
         self.taken = {first: [] for first in BUSES}
         self.ended = dict.fromkeys(BUSES, 0)
         works = []
@@ -256,7 +259,7 @@ class Crowd:
             thread.start()
 
     def attend(self, work, client, *words):
-        """Does this with a client, as long as there is a server."""
+        """Runs this work with a client until the work ends or the server is gone."""
         try:
             with contextlib.suppress(OSError), contextlib.closing(client):
                 work(client, *words)
@@ -287,7 +290,7 @@ class Crowd:
             time.sleep(maker.random.choice([0, 0, 0.001, 0.004]))
 
     def end(self):
-        """Ends those that give rules once all frames were sent, or the server is gone."""
+        """Waits until all frames were sent or the server is gone, and then ends the sessions that give rules."""
         join(self.senders, 4 * WAIT)
         self.is_over.set()
         join(self.givers)
@@ -295,13 +298,14 @@ class Crowd:
 
 
 def end_busy(server):
-    """Ends a server, which may have said that it was late."""
+    """Ends a server, which may have reported that it was late."""
     status, _ = server.finish(3 * WAIT)
     assert status == 0, server.said()
 
 
 def scripts(maker, folder):
-    """A script for each bus or for none, as its text and as a word of the command line."""
+    """Writes a random script, or none, for each bus; returns the texts, and the words of the command line for the
+    buses."""
     texts = {first: maker.script(names, 100) if maker.chance(0.7) else "" for first, names in BUSES.items()}
     for first, text in texts.items():
         (folder / f"{first}.script").write_text(text, encoding="utf-8")
@@ -310,14 +314,14 @@ def scripts(maker, folder):
 
 
 def written(folder, first, ending=""):
-    """What a server left of a bus, or has so far: the record, and then the faults, as far as their lines are whole."""
+    """Reads the record of a bus first and then its faults; returns the whole lines that the server has written of both."""
     path = f"{folder}/{first}.rec"
     return whole_lines(path + ending), whole_lines(f"{path}.faults{ending}")
 
 
 def check(folder, first, script, record, faults):
-    """Checks that faults are those of the start and lines after them, by which each attempt has the verdict, and in the audit the
-    rule, that the model decides. Returns these rules, and the lines after the script without their numbers."""
+    """Checks that the faults are the script and later lines, and that each attempt has the verdict and, in the audit,
+    the rule that the model decides. Returns these rules, and the later lines without their numbers."""
     names = BUSES[first]
     front = script + "\n" * bool(script and not script.endswith("\n"))
     assert faults.startswith(front)
@@ -335,7 +339,7 @@ def check(folder, first, script, record, faults):
 
 
 def alike(rules, names):
-    """Rules, however they are spelled."""
+    """Returns the rules in a sorted form that does not depend on their spelling."""
     return sorted(repr(vars(Rule(0, text, names))) for text in rules)
 
 
@@ -343,7 +347,8 @@ def alike(rules, names):
 @pytest.mark.parametrize("count", [1, pytest.param(20, marks=pytest.mark.slow)])
 @pytest.mark.parametrize("when", WHEN)
 def test_rules_that_come_while_others_send(when, count, pace, rng, tmp_path):
-    """each of them that a bus took, and none that it refused, where it counts"""
+    """The faults have each rule that a bus accepted, at the attempt where it takes effect, and no rule that the bus
+    refused."""
     decisions = 0
     for number in range(count):
         folder = tmp_path / str(number)
@@ -366,13 +371,13 @@ def test_rules_that_come_while_others_send(when, count, pace, rng, tmp_path):
 
 @pytest.mark.parametrize("pace", PACES, ids=" ".join)
 def test_faults_of_a_run_that_goes_on(pace, rng, tmp_path):
-    """at each moment they suffice for the entries that are there"""
+    """At any time during a run, the written faults suffice for the written entries."""
     texts, buses = scripts(RuleMaker(rng.random()), tmp_path)
     seen = []
     with serving_alone(*LIVE, *pace, "--auto-restart", "3", *buses, out=tmp_path) as server:
         crowd = Crowd(server, rng, 120)
         while any(thread.is_alive() for thread in crowd.senders):
-            # A line of the faults is there before each entry of the record for which it counts.
+            # A line of the faults is written before each entry of the record that it applies to.
             seen += [(first, *written(tmp_path, first, ".new")) for first in BUSES]
             time.sleep(0.01)
         crowd.end()
@@ -384,7 +389,8 @@ def test_faults_of_a_run_that_goes_on(pace, rng, tmp_path):
 
 @pytest.mark.parametrize("kills", [4, pytest.param(100, marks=pytest.mark.slow)])
 def test_servers_that_are_killed(kills, rng, tmp_path):
-    """what they leave suffices for the entries that are there, and the next server sets it aside with the record"""
+    """A killed server leaves faults that suffice for the written entries, and the next server sets them aside with the
+    record."""
     attempts = 0
     for number in range(kills):
         folder = tmp_path / str(number)
@@ -394,7 +400,7 @@ def test_servers_that_are_killed(kills, rng, tmp_path):
         words = ["--record", "live", "--flush", flush, *rng.choice(PACES), "--auto-restart", "3", *buses]
         with serving_alone(*words, out=folder) as server:
             crowd = Crowd(server, rng, 10_000)
-            # A moment, and not a wait for something.
+            # This is a random time, not a wait for an event.
             time.sleep(rng.uniform(0.1, 1.5))
             server.child.kill()
             server.child.wait()
@@ -411,7 +417,7 @@ def test_servers_that_are_killed(kills, rng, tmp_path):
 
 
 def set_aside(folder, files):
-    """The next server keeps the record of each bus that has entries, and its faults."""
+    """Checks that the next server keeps the record of each bus that has entries, together with its faults."""
     first = [name for name, text in files.items() if name.endswith(".rec.new") and text.count("\n") > 2]
     status, said, errors = start(folder, "--record", "end", *(",".join(names) for names in BUSES.values()))
     assert status == 0 and said.startswith("listening "), errors
@@ -426,37 +432,37 @@ def set_aside(folder, files):
     assert not [name for name in names_in(folder) if name.endswith((".new", ".faults"))]
 
 
-# Folders, and what an earlier run left there.
+# Folders with files of an earlier run.
 
 KILLED = FRONT + "attempt 0.000000 good = idle\n" * 10
 
 
 def leave(folder, **texts):
-    """Files of an earlier run, by what follows the name of their bus."""
+    """Writes files of an earlier run. Each keyword is the part of a file name after the name of the bus."""
     for name, text in texts.items():
         (folder / f"can0.{name.replace('_', '.')}").write_text(text)
 
 
 def left(folder):
-    """What a folder has of faults."""
+    """Returns the texts of all faults files in a folder, by the part of their names after the bus."""
     return {name.removeprefix("can0."): read(folder / name) for name in names_in(folder) if ".rec.faults" in name}
 
 
 def bus_of(folder, script):
-    """The word for a bus with this script, or without one."""
+    """Returns the word of the command line for a bus with this script, or without a script if it is empty."""
     (folder / "my.script").write_text(script)
     return f"can0@{folder}/my.script" if script else "can0"
 
 
 def mine(script):
-    """What a run with this script leaves, or one without."""
+    """Returns the faults files that a run with this script leaves; none if the script is empty."""
     return {"rec.faults": script} if script else {}
 
 
 @pytest.mark.parametrize("when", [*WHEN, "none"])
 @pytest.mark.parametrize("script", ["", SCRIPT], ids=["no script", "script"])
 def test_faults_of_an_earlier_run(when, script, tmp_path):
-    """stay with its record until there is another one"""
+    """The faults of an earlier run stay with its record until there is a new record."""
     leave(tmp_path, rec="of the record\n", rec_faults="of its faults\n", rec_faults_cut="of a cut one\n")
     before = left(tmp_path)
     with serving_alone("--record", when, bus_of(tmp_path, script), out=tmp_path) as server:
@@ -468,7 +474,7 @@ def test_faults_of_an_earlier_run(when, script, tmp_path):
 @pytest.mark.parametrize("when", WHEN)
 @pytest.mark.parametrize("script", ["", SCRIPT], ids=["no script", "script"])
 def test_what_is_set_aside(when, script, tmp_path):
-    """the record of a run that was killed with its faults, if it has some, and with those of no other"""
+    """The record of a killed run is set aside with its own faults, if it has any, and never with those of another run."""
     for faults in ({"rec_faults_new": "next 1 lastbit\nat 5"}, {}):
         leave(tmp_path, rec_new=KILLED, rec_cut=FRONT, rec_faults_cut="of another one\n", **faults)
         status, said, errors = start(tmp_path, "--record", when, bus_of(tmp_path, script))
@@ -481,7 +487,7 @@ def test_what_is_set_aside(when, script, tmp_path):
 @pytest.mark.parametrize("when", WHEN)
 @pytest.mark.parametrize("kind", ["rec.cut", "rec.faults.cut"])
 def test_a_folder_where_something_is_set_aside(when, kind, tmp_path):
-    """the start is refused, and of all its buses nothing is set aside before there is room"""
+    """If a file of one bus can't be set aside, the start is refused, and nothing of any bus is set aside."""
     killed = [tmp_path / f"{bus}.{end}" for bus in ("can0", "can2") for end in ("rec.new", "rec.faults.new")]
     for path in killed:
         path.write_text(KILLED if path.name.endswith("rec.new") else f"# of {path.name}\n")
@@ -499,7 +505,7 @@ def test_a_folder_where_something_is_set_aside(when, kind, tmp_path):
 
 
 def start_beside_a_mount(place, folder, *words):
-    """The same as `start`, where no file can get the name of this one, as something is mounted there."""
+    """Does the same as `start`, but no file can be renamed to `place`, because something is mounted there."""
     script = 'mount --bind "$0" "$0" && exec "$@"'
     mount = ["unshare", "--user", "--map-root-user", "--mount", "sh", "-c", script, place]
     if not shutil.which("unshare") or call(*mount, "true")[0] != 0:
@@ -511,7 +517,8 @@ def start_beside_a_mount(place, folder, *words):
 @pytest.mark.parametrize("when", WHEN)
 @pytest.mark.parametrize("kind", ["rec.cut", "rec.faults.cut"])
 def test_a_place_that_is_taken_meanwhile(when, kind, tmp_path):
-    """the start is refused, and neither the record nor its faults are lost: the next start sets both aside"""
+    """If a rename fails because its target is taken, the start is refused, but the record and its faults are not lost:
+    the next start sets both aside."""
     leave(tmp_path, rec_new=KILLED, rec_faults_new="# of it\n", rec_cut=FRONT, rec_faults_cut="# of another one\n")
     place = f"{tmp_path}/can0.{kind}"
     status, said, errors = start_beside_a_mount(place, tmp_path, "--record", when, "can0")
@@ -525,7 +532,8 @@ def test_a_place_that_is_taken_meanwhile(when, kind, tmp_path):
 
 @pytest.fixture
 def killed_before(tmp_path):
-    """The environments in which a program is killed before its first rename, its second and so on (killed_rename.c)."""
+    """Returns environments in which a program is killed before its first rename, before its second rename, and so on
+    (killed_rename.c)."""
     if not shutil.which("cc"):
         pytest.skip("no C compiler: cc")
     library, source = tmp_path / "killed_rename.so", os.path.join(ROOT, "tests", "helpers", "killed_rename.c")
@@ -534,7 +542,8 @@ def killed_before(tmp_path):
 
 
 def all_kills(folder, environments, leave_files, *words):
-    """Yields a folder with these files after each server that was killed before a rename, up to the first that was not."""
+    """Starts a server in a new folder with these files for each environment, until one of them is not killed. Yields
+    each folder after its server has ended."""
     for number, environment in enumerate(environments):
         place = folder / f"of-{number}"
         place.mkdir()
@@ -548,7 +557,7 @@ def all_kills(folder, environments, leave_files, *words):
 
 @pytest.mark.parametrize("when", WHEN)
 def test_kills_at_the_end(when, tmp_path, killed_before):
-    """leave no record beside the faults of another run"""
+    """A server that is killed at its end leaves no record next to the faults of another run."""
     later = "always id 7DE good\n"
 
     def earlier_run(place):
@@ -566,7 +575,7 @@ def test_kills_at_the_end(when, tmp_path, killed_before):
 
 @pytest.mark.parametrize("when", WHEN)
 def test_kills_while_something_is_set_aside(when, tmp_path, killed_before):
-    """leave no record beside the faults of another run"""
+    """A server that is killed while it sets files aside leaves no record next to the faults of another run."""
 
     def killed_run(place):
         leave(place, rec_new=KILLED, rec_faults_new="# of it\n", rec_cut=FRONT, rec_faults_cut="# of another one\n")
@@ -582,7 +591,7 @@ def test_kills_while_something_is_set_aside(when, tmp_path, killed_before):
 @pytest.mark.parametrize("when", WHEN)
 @pytest.mark.parametrize("script", ["", SCRIPT], ids=["no script", "script"])
 def test_what_a_start_that_failed_left(when, script, tmp_path):
-    """takes the place of nothing"""
+    """The files of a failed start replace no files that were set aside."""
     leave(tmp_path, rec_new=FRONT, rec_cut=KILLED, rec_faults_new="next 1 lastbit\n" * 9, rec_faults_cut="of it\n")
     status, said, errors = start(tmp_path, "--record", when, bus_of(tmp_path, script))
     assert (status, errors) == (0, "") and said.startswith("listening ")
@@ -591,7 +600,7 @@ def test_what_a_start_that_failed_left(when, script, tmp_path):
 
 
 def test_without_a_record(tmp_path):
-    """there are no faults; and those of a run that was killed are left to who writes records"""
+    """A server without a record writes no faults, and leaves the faults of a killed run to servers that write records."""
     leave(tmp_path, rec_new=KILLED, rec_faults_new="of it\n")
     with serving_alone("--record", "none", bus_of(tmp_path, SCRIPT), out=tmp_path) as server:
         assert give(plain(server, "can0"), "next 1 good") == "< ok >"
@@ -610,7 +619,7 @@ def test_without_a_folder(when, tmp_path):
 @pytest.mark.parametrize("when", WHEN)
 @pytest.mark.parametrize("kind", ["rec.faults", "rec.faults.new"])
 def test_a_place_that_takes_no_file(when, kind, tmp_path):
-    """it is reported, and the bus that has no place for its faults leaves no record that looks whole"""
+    """A faults file that can't be written is reported, and its bus leaves no record that looks complete."""
     (tmp_path / f"can0.{kind}" / "full").mkdir(parents=True)
     leave(tmp_path, rec="of an earlier run\n")
     status, _, errors = start(tmp_path, "--record", when, bus_of(tmp_path, SCRIPT))
@@ -622,7 +631,7 @@ def test_a_place_that_takes_no_file(when, kind, tmp_path):
 @pytest.mark.parametrize("when", WHEN)
 @pytest.mark.parametrize("kind", ["rec.faults", "rec.faults.new"])
 def test_links(when, kind, tmp_path):
-    """they are not followed to a plain file, or to nothing: the new file takes their place"""
+    """Links at the names of faults, to a plain file or to nothing, are not followed: the new file replaces them."""
     others = tmp_path / "others"
     others.write_text("of others\n")
     for target in (others, tmp_path / "nothing"):
@@ -635,7 +644,7 @@ def test_links(when, kind, tmp_path):
 
 @pytest.mark.parametrize("when", WHEN)
 def test_a_fifo_where_faults_are_written_first(when, tmp_path):
-    """it is removed, as all is that is left there"""
+    """A fifo at the name where faults are written first is removed, like any other file of that name."""
     os.mkfifo(tmp_path / "can0.rec.faults.new")
     assert start(tmp_path, "--record", when, bus_of(tmp_path, SCRIPT))[0] == 0
     assert left(tmp_path) == {"rec.faults": SCRIPT}
@@ -643,7 +652,7 @@ def test_a_fifo_where_faults_are_written_first(when, tmp_path):
 
 @pytest.mark.parametrize("when", WHEN)
 def test_a_fifo_for_faults(when, tmp_path):
-    """nobody waits at the end for one who reads it: as for a record it is refused"""
+    """A fifo for faults is refused, as for a record, so the server never waits at its end for a reader."""
     os.mkfifo(tmp_path / "can0.rec.faults")
     options = "--until-eof", "--listen", "127.0.0.1:0", "--out", tmp_path, "--record", when
     words = [program(), "serve", *options, bus_of(tmp_path, SCRIPT)]
@@ -653,7 +662,7 @@ def test_a_fifo_for_faults(when, tmp_path):
 
 
 def may_grow(most):
-    """Lets files grow to a number of bytes; then writes are refused."""
+    """Returns a function that limits the size of files to this many bytes; larger writes are refused."""
 
     def begin():
         signal.signal(signal.SIGXFSZ, signal.SIG_IGN)
@@ -663,7 +672,8 @@ def may_grow(most):
 
 
 def test_a_disk_that_is_full(tmp_path):
-    """the faults find no room, and it is reported; beside the new record are none of another one, and none that look whole"""
+    """Faults that do not fit on the disk are reported. The new record has no faults of another run next to it, and none
+    that look complete."""
     leave(tmp_path, rec="of an earlier run\n", rec_faults="of its faults\n")
     script = "# a comment\n" * 1000
     status, said, errors = start(tmp_path, "--record", "end", bus_of(tmp_path, script), preexec_fn=may_grow(5000))
@@ -672,12 +682,12 @@ def test_a_disk_that_is_full(tmp_path):
     assert call(program(), "audit", f"{tmp_path}/can0.rec")[1] == "ok 0 entries\n"
     growing = left(tmp_path).pop("rec.faults.new", "")
     assert script.startswith(growing) and "rec.faults" not in left(tmp_path)
-    # Their remains replace no other file.
+    # The incomplete faults replace no other file.
     assert start(tmp_path, "--record", "end", "can0")[::2] == (0, "") and left(tmp_path) == {}
 
 
 def test_a_disk_that_is_full_at_the_start(tmp_path):
-    """a server does not start whose script finds no room, and leaves the folder as it is"""
+    """A server whose script does not fit on the disk does not start, and leaves the folder unchanged."""
     leave(tmp_path, rec="of an earlier run\n", rec_faults="of its faults\n")
     bus = bus_of(tmp_path, "# a comment\n" * 1000)
     status, said, errors = start(tmp_path, "--record", "live", bus, preexec_fn=may_grow(5000))
@@ -688,7 +698,8 @@ def test_a_disk_that_is_full_at_the_start(tmp_path):
 
 @pytest.mark.parametrize("when", WHEN)
 def test_rules_that_find_no_room(when):
-    """it is reported, the bus goes on, and no faults are left, since they would lack a rule"""
+    """Rules that do not fit on the disk are reported and the bus goes on. No faults are left, because they would lack a
+    rule."""
     rule = "next 99999999 from can1 id 00000123:1FFFFFFF good"
     words = [*(LIVE if when == "live" else ()), "can0,can1"]
     with serving_alone(*words, preexec_fn=may_grow(5000)) as server:
@@ -704,7 +715,7 @@ def test_rules_that_find_no_room(when):
 
 
 def test_a_kill_after_rules_that_find_no_room(tmp_path):
-    """the record is set aside without faults: those that are there lack rules of its entries"""
+    """After a kill the record is set aside without faults, because the written faults lack rules of its entries."""
     with serving_alone(*LIVE, "can0,can1", out=tmp_path, preexec_fn=may_grow(5000)) as server:
         one, other = plain(server, "can0"), plain(server, "can1")
         for _ in range(100):
@@ -723,8 +734,8 @@ def test_a_kill_after_rules_that_find_no_room(tmp_path):
 
 @pytest.mark.parametrize("when", [*WHEN, "none", "nowhere"])
 def test_the_most_lines_that_wait(when):
-    """64 MiB of a bus: then rules are refused, and frames go on. At the end they are written. Lines that are taken while the
-    server runs do not wait, and if nobody takes them none are kept"""
+    """At most 64 MiB of lines wait for a bus; then rules are refused, and frames go on. The lines are written at the
+    end. Lines that are written while the server runs do not wait, and without a faults file no lines are kept."""
     name = "longest-name.15"
     rule = f"always from {','.join([name] * 60)} good"
     words = ["--record", "end" if when == "nowhere" else when, f"{name},can1"]

@@ -1,4 +1,4 @@
-"""`canbusd serve` with plain sockets: records that fill, clients that disconnect, and the end of a server."""
+"""Tests `canbusd serve` with plain sockets: records that fill, clients that disconnect, and the end of a server."""
 
 import contextlib
 import os
@@ -18,7 +18,7 @@ from serving import ROOT, WAIT, Plain, come_true, join, line_of, plain, program,
 
 
 def test_full_record():
-    """a full record is reported once and to each call, and no thread spins"""
+    """A full record is reported once by the server and to each later call, and no thread spins."""
     with serving("--limit", "5", "can0,can1", "can2") as server:
         can0, can1 = plain(server, "can0"), plain(server, "can1")
         can0.write("< send 123 1 5 >")
@@ -38,7 +38,7 @@ def test_full_record():
 
 
 def test_nearly_full_record():
-    """nine tenths are reported once, with the alternative without a limit"""
+    """A record that is nine tenths full is reported once, and the note names the alternatives without a limit."""
     note = "note: bus can0: the record is nine tenths full; serve --record live or --record none has no such end"
     with serving("--limit", "50", "--pace", "0", "can0,can1") as server:
         can0, can1 = plain(server, "can0"), plain(server, "can1")
@@ -51,7 +51,8 @@ def test_nearly_full_record():
 
 
 def test_verbose():
-    """each client, each open and each end is reported, and each bus off and restart, each line with its time"""
+    """With --verbose each client, each opened interface, each end of a session, each bus off and each restart is
+    reported on a line with its time."""
     words = ("--verbose", "--auto-restart", "3", "--pace", "0", f"can0,can1@{ROOT}/examples/bus_off_attack.script")
     with serving(*words) as server:
         can0 = plain(server, "can0")
@@ -75,7 +76,8 @@ def test_verbose():
 
 
 def test_down_and_up():
-    """a down interface reports this, sends and receives nothing, and comes up by a restart; both are reported"""
+    """An interface that is down reports this, and sends and receives nothing. It comes up by a restart, and the server
+    reports both changes."""
     with serving("--verbose", "--pace", "0", "can0,can1") as server:
         can0, can1 = plain(server, "can0"), plain(server, "can1")
         replies = [can0.answer(f"< {words} >") for words in ("down", "status", "send 123 0")]
@@ -94,12 +96,12 @@ def test_down_and_up():
 
 
 def said_in_turn(server):
-    """Returns the output of a server with --verbose, without the times."""
+    """Returns the lines that a server with --verbose has written, without their times."""
     return [re.sub(r"^\d{10}\.\d{6} ", "", line) for line in server.said().splitlines()]
 
 
 def test_verbose_of_another_bus():
-    """an interface and a bus that are not the first are reported by their own names"""
+    """Interfaces and buses other than the first are reported by their own names."""
     words = ("--verbose", "--auto-restart", "3", "--pace", "0", "--limit", "50")
     with serving(*words, "car0", f"can0,can1@{ROOT}/examples/bus_off_attack.script") as server:
         ports = []
@@ -111,8 +113,8 @@ def test_verbose_of_another_bus():
         (can1, port), (can0, other) = ports
         can1.write("< send 123 0 >")
         assert come_true(lambda: said_in_turn(server)[-1:] == ["can1: restarted"]), server.said()
-        # There are 38 entries: two sockets, a send, 32 attempts and three until the restart. Each further frame has
-        # three.
+        # There are 38 entries: two sockets, a send, 32 attempts and three until the restart. Each further frame adds
+        # three entries.
         for value in range(4):
             can1.write(f"< send 123 1 {value} >")
             assert can0.frame() == ("123", bytes([value])), "not the frame"
@@ -135,7 +137,7 @@ def test_verbose_of_another_bus():
 
 
 def test_record_that_a_delivery_finds_full():
-    """if a receive is the first call without room in the record, this is reported, and both sessions continue"""
+    """If a receive is the first call that does not fit into the record, this is reported, and both sessions continue."""
     with serving("--limit", "4", "--pace", "0", "can0,can1") as server:
         can0, can1 = plain(server, "can0"), plain(server, "can1")
         can0.write("< send 123 1 5 >")
@@ -149,7 +151,7 @@ def test_record_that_a_delivery_finds_full():
 
 
 def test_each_of_64_sessions():
-    """a frame reaches the sockets of all sessions, whatever their numbers"""
+    """A frame reaches the sockets of all sessions, whatever their numbers."""
     with serving("--pace", "0", "can0,can1") as server:
         sender, *others = [plain(server, "can0")] + [plain(server, "can1") for _ in range(63)]
         for number in range(3):
@@ -161,7 +163,8 @@ def test_each_of_64_sessions():
 
 
 def test_counts_of_verbose():
-    """the report has the lost frames of a session, and the restart that comes after many calls of its session"""
+    """With --verbose the report has the lost frames of a session, and the restart that comes after many calls of its
+    session."""
     words = ("--verbose", "--pace", "0", "--txqueue", "1024", "--rxqueue", "1")
     with serving(*words, f"can0,can1@{ROOT}/examples/bus_off_attack.script", "can2,can3") as server:
         off = plain(server, "can0")
@@ -192,7 +195,8 @@ def test_counts_of_verbose():
 
 @pytest.mark.slow
 def test_raw_sessions_keep_their_places():
-    """a minute later, when a client finds no place, a silent client loses its place, but no session in raw mode does"""
+    """If a newcomer finds no free place, a client that was silent for a minute loses its place, but no session in raw
+    mode does."""
     with serving("can0,can1") as server:
         raw = [plain(server, "can0") for _ in range(63)]
         silent = Plain(server)
@@ -206,7 +210,7 @@ def test_raw_sessions_keep_their_places():
 
 
 def has_ended(client):
-    """Returns whether the server has closed a connection, which may have more to read."""
+    """Returns whether the server has closed this connection. A reset counts too."""
     try:
         return client.text() == ""
     except ConnectionError:
@@ -216,7 +220,7 @@ def has_ended(client):
 @pytest.mark.parametrize("pieces", ["whole", "byte by byte"])
 @pytest.mark.parametrize("method", ["GET", "POST", "PATCH", "patch", "FOO", "x", "\r\n\r\nGET", " GET"])
 def test_web_page(method, pieces):
-    """a request of any method puts no frame on a bus: its connection is closed, and that is reported"""
+    """A request of any method puts no frame on a bus. Its connection is closed, and that is reported."""
     body = "< open can0 >< rawmode >< send 123 0 >"
     request = f"{method} / HTTP/1.1\r\nHost: 127.0.0.1\r\nContent-Length: {len(body)}\r\n\r\n{body}"
     with serving("--verbose", "can0,can1") as server:
@@ -245,7 +249,7 @@ def test_web_page(method, pieces):
 
 @pytest.mark.parametrize("first", ["G", "GET", " GET", "get", " ", "\t\r\n", "x>"])
 def test_no_web_page(first):
-    """a client that begins as a request may, and has no blank after its first word, goes on"""
+    """A client that begins like a request, but has no blank after its first word, is served."""
     with serving("can0,can1") as server:
         near, other = Plain(server), plain(server, "can1")
         assert near.text() == "< hi >"
@@ -259,7 +263,7 @@ def test_no_web_page(first):
 
 
 def test_slow_reader():
-    """frames that it does not read are dropped and counted, and nobody else waits for it"""
+    """Frames that a slow client does not read are dropped and counted, and no other client waits for it."""
     with serving(
         "--pace", "0", "--txqueue", "1024", "--rxqueue", "100", "can0,can1", address="./slow.socket"
     ) as server:
@@ -271,7 +275,7 @@ def test_slow_reader():
             got = int.from_bytes(quick.frame()[1], "big")
             assert got == number, f"{got} instead of {number}"
         got, taken, queued = [], 0, None
-        # An answer comes among the frames, wherever the session has come to.
+        # The answer to `stats` arrives somewhere between the frames.
         for _ in turns("all that was queued is taken"):
             if taken == queued and len(got) >= taken:
                 break
@@ -288,7 +292,7 @@ def test_slow_reader():
 
 @pytest.mark.parametrize("most", [256, 1024, 65536])
 def test_bytes_of_a_write(most):
-    """frames come complete and in order, however many go out in a write"""
+    """Frames arrive complete and in order, however many the server sends in one write."""
     options = ("--pace", "0", "--txqueue", "1024", "--rxqueue", "65536", "--write", str(most))
     with serving(*options, "can0,can1") as server:
         sender, reader = plain(server, "can0"), plain(server, "can1")
@@ -303,8 +307,8 @@ def test_bytes_of_a_write(most):
 @pytest.mark.skipif(not shutil.which("cc"), reason="no C compiler: cc")
 @pytest.mark.parametrize("words, most", [(["--write", "256"], 256), ([], 1024), (["--write", "3000"], 3000)])
 def test_lengths_of_writes(words, most, tmp_path):
-    """each write has complete frames and is no longer than the limit, and if many wait a write nearly reaches it
-    (noted_sends.c)"""
+    """Each write has only complete frames and does not exceed the limit. If many frames wait, a write is longer than
+    half of the limit (noted_sends.c)."""
     library, sends = tmp_path / "noted_sends.so", tmp_path / "sends"
     source = os.path.join(ROOT, "tests", "helpers", "noted_sends.c")
     subprocess.run(["cc", "-O2", "-Wall", "-Werror", "-fPIC", "-shared", "-o", library, source], check=True)
@@ -312,7 +316,7 @@ def test_lengths_of_writes(words, most, tmp_path):
     with serving_alone("--pace", "0", "--txqueue", "100", *words, "can0,can1", env=environment) as server:
         sender, reader = plain(server, "can0"), plain(server, "can1")
         for _ in range(20):
-            # They come in one read, and up to 64 of them are on the bus before a client gets one.
+            # The server reads these messages together, and puts up to 64 frames on the bus before a client gets one.
             sender.write("< send 123 8 1 2 3 4 5 6 7 8 >" * 100)
             texts = [reader.text() for _ in range(100)]
         server.end()
@@ -324,7 +328,7 @@ def test_lengths_of_writes(words, most, tmp_path):
 
 
 def test_clients_that_go():
-    """clients send half a message, or shut down their sending side; the others get their frames"""
+    """Clients that send half a message, or shut down their sending side, do not stop the frames of other clients."""
     with serving("can0,can1") as server:
         can0, can1 = plain(server, "can0"), plain(server, "can1")
         gone, half = plain(server, "can0"), plain(server, "can1")
@@ -339,7 +343,7 @@ def test_clients_that_go():
 
 
 def test_too_many_sessions():
-    """64 at once, and the 65th, which is refused and reported"""
+    """A server has 64 sessions at once. The 65th is refused and reported."""
     with serving("--verbose", "can0") as server:
         clients = [plain(server, "can0") for _ in range(64)]
         last = Plain(server)
@@ -358,7 +362,7 @@ def test_too_many_sessions():
 
 
 def test_sessions_that_come_and_go():
-    """2,000 sessions come and go, some in the middle of a message, and leave nothing"""
+    """2,000 sessions that come and go, some in the middle of a message, leave no threads or descriptors behind."""
     openings = [
         "",
         "< open can0 >",
@@ -368,7 +372,7 @@ def test_sessions_that_come_and_go():
         "< open can0 >< rawmode >" + "< send 7FF 8 1 2 3 4 5 6 7 8 >" * 50,
     ]
     with serving("--pace", "0", "--txqueue", "1024", "can0,can1") as server:
-        # After one client was greeted and has gone, all threads of the server have begun.
+        # All threads of the server have started after the first client was greeted and has gone.
         with contextlib.closing(Plain(server)) as visitor:
             assert visitor.text() == "< hi >"
         assert come_true(server.rests), "the server does not come to rest"
@@ -392,7 +396,7 @@ def test_sessions_that_come_and_go():
 
 
 def test_ends_while_busy():
-    """Ctrl-C while all sessions send and receive"""
+    """A server that is ended by Ctrl-C while all sessions send and receive leaves complete records."""
     for _ in range(5):
         with serving("--pace", "0", "--txqueue", "1024", "--rxqueue", "65536", "can0,can1", "can2,can3") as server:
             clients = [plain(server, f"can{number}") for number in (0, 0, 1, 2, 3)]
@@ -416,7 +420,8 @@ def test_ends_while_busy():
 
 
 def test_unix_path(tmp_path):
-    """a socket file without a listener is taken over, and removed at the end; a socket in use is left"""
+    """A server takes over a socket file without a listener, and removes it at the end. It leaves a socket that is in
+    use."""
     path = os.path.join(tmp_path, "socket")
     with socket.socket(socket.AF_UNIX) as stale:
         stale.bind(path)
@@ -446,10 +451,10 @@ def connected(server):
 
 
 def heard(connection):
-    """Returns the input of a connection up to its end.
+    """Returns all bytes that a connection receives until its end.
 
-    It says something first: a connection that Linux dropped on the side of the server as it was made hears of that only
-    then.
+    Sends a byte first: if Linux dropped a new connection on the server's side, the client learns this only when it
+    sends.
     """
     text = b""
     with contextlib.suppress(ConnectionResetError, BrokenPipeError):
@@ -461,7 +466,7 @@ def heard(connection):
 
 @pytest.mark.slow
 def test_ends_in_bursts():
-    """1,000 servers must end while clients come: each ends, and gives each client the right reason"""
+    """1,000 servers that are ended while clients connect all end, and each client gets a greeting or nothing."""
     for number in range(1000):
         path = "./burst.socket" if number % 2 else "127.0.0.1:0"
         with contextlib.ExitStack() as stack:
@@ -483,7 +488,7 @@ def test_ends_in_bursts():
 
 
 def test_door_after_the_last_session():
-    """a client that comes after the last of --sessions is refused at once, and so is a waiting client"""
+    """After the last of --sessions has begun, new clients are refused at once, and so is a waiting client."""
     for address in ("127.0.0.1:0", "./last.socket"):
         with serving_alone("--sessions", "1", "can0", address=address) as server:
             if ":" not in address:
@@ -500,7 +505,7 @@ def test_door_after_the_last_session():
 
 
 def test_attempts_in_vain_at_the_end(tmp_path):
-    """an unacknowledged frame, and an interface that waits for its restart, do not delay the end"""
+    """Neither an unacknowledged frame nor an interface that waits for its restart delays the end of a server."""
     most = 16777216
     with serving("--ack", "peers", "--pace", "0", "--limit", str(most), "can0") as server:
         plain(server, "can0").write("< send 123 0 >")
@@ -517,13 +522,14 @@ def test_attempts_in_vain_at_the_end(tmp_path):
 
 
 def test_own_socket_file(tmp_path):
-    """a server removes only its own file; a path belongs to one server"""
+    """A server removes only its own socket file, and a path belongs to one server."""
     path = os.path.join(tmp_path, "socket")
 
     def second():
         return call(program(), "serve", "--listen", path, "can0")[0]
 
-    # Another server that asks for the path is no session of the first, also where the first does not run.
+    # A server that asks for the path does not count as a session of the first server, even if the first server is
+    # stopped.
     with serving_alone("--sessions", "1", "can0", address=path) as server:
         assert second() == 1, "two servers have one path"
         os.kill(server.child.pid, signal.SIGSTOP)
@@ -538,7 +544,7 @@ def test_own_socket_file(tmp_path):
         os.kill(server.child.pid, signal.SIGCONT)
         assert server.child.wait(WAIT) == 0, "the end"
     assert os.listdir(tmp_path) == [], f"{os.listdir(tmp_path)} is left"
-    # A file that took the socket's place stays.
+    # A file that has replaced the socket stays.
     for kind in ("file", "socket"):
         with serving_alone("can0", address=path) as server:
             os.unlink(path)
@@ -552,7 +558,7 @@ def test_own_socket_file(tmp_path):
                 server.end()
                 assert os.listdir(tmp_path) == ["socket"], f"{os.listdir(tmp_path)} is left of a {kind}"
         os.unlink(path)
-    # A server that was killed leaves its file to the next, and of two that come at once one gets it.
+    # A killed server leaves its socket file to the next server. If two servers start at once, one of them gets it.
     for _ in range(100):
         with serving_alone("can0", address=path) as server:
             server.child.kill()
@@ -575,8 +581,8 @@ def test_own_socket_file(tmp_path):
 
 
 def test_folder_of_a_server(tmp_path):
-    """a folder that accepts no files is refused before the server listens; files of an earlier run stay until new ones
-    are complete"""
+    """A folder that accepts no files is refused before the server listens. Files of an earlier run stay until the new
+    files are complete."""
     none = os.path.join(tmp_path, "none")
     words = [program(), "serve", "--listen", "127.0.0.1:0", "--until-eof", "--out"]
     said = f"canbusd: cannot open {none}\n  {none}/can0.rec.new: No such file or directory (os error 2)\n"
@@ -599,7 +605,7 @@ def test_folder_of_a_server(tmp_path):
 
 
 def test_links_of_a_folder(tmp_path):
-    """a link at a name that a server writes to first, made by somebody else, is removed and not followed"""
+    """A link that somebody else made at a name that a server writes to first is removed and not followed."""
     words = [program(), "serve", "--listen", "127.0.0.1:0", "--until-eof", "--out", str(tmp_path), "can0"]
     others = tmp_path / "others"
     others.write_text("of others\n")

@@ -1,4 +1,4 @@
-"""`canbusd serve --bitrate`: the times of frames on the bus of a server, and the times when clients get them."""
+"""Tests `canbusd serve --bitrate`: the times of frames on the bus of a server, and the times when clients get them."""
 
 from __future__ import annotations
 
@@ -22,19 +22,20 @@ from timed_benches import MICRO, bench, moment, random_frame, rate_options, send
 from wire_model import Frame
 from wire_times import IDLE, SECOND, Ending, Rates
 
-# By how much a client's clock may differ from the server's, in seconds: both are the system's at the start.
+# By how much a client's clock may differ from the server's, in seconds. Both show the system's time at the start.
 CLOCKS = 0.001
 EIGHT_BYTES = Frame.read("123#1122334455667788")
-# The most frames that wait in a queue, which is kept full while a client is not later than they take.
+# How many frames wait in a queue. The client keeps the queue full unless it is later than the time that these frames
+# take.
 WINDOW = 1024
 
 
 class TooBusy(Exception):
-    """The machine was too busy, and a server too late."""
+    """The machine was too busy, so the server was late."""
 
 
 def patiently(test: Callable[..., None]) -> Callable[..., None]:
-    """Runs the test up to three times, of which one must be on a machine that is not too busy."""
+    """Runs the test up to three times, until the machine is not too busy."""
 
     @functools.wraps(test)
     def tried(**fixtures: object) -> None:
@@ -49,7 +50,7 @@ def patiently(test: Callable[..., None]) -> Callable[..., None]:
 
 
 def end_in_time(server: Server) -> None:
-    """Ends a server, which must have been in time."""
+    """Ends a server; raises TooBusy if the server was late."""
     status, _ = server.finish()
     said = server.said()
     if said:
@@ -62,7 +63,7 @@ def micros(text: str) -> int:
 
 
 def replayed(path: str, rates: Rates) -> str:
-    """Returns the report of a replay on the times of a record, which has no finding at the right bit rates."""
+    """Replays the times of a record with its bit rates, which must give no finding; returns the report."""
     words = [sys.executable, "-m", "canbusd", "replay", "--quiet", *rate_options(rates), path]
     done = subprocess.run(words, capture_output=True, text=True, timeout=120, check=False)
     assert (done.returncode, done.stderr) == (0, ""), done.stderr
@@ -70,21 +71,21 @@ def replayed(path: str, rates: Rates) -> str:
 
 
 def attempts(server: Server, name: str = "can0") -> list[tuple[int, str]]:
-    """Returns the times of the attempts in the record of a bus, in microseconds, and their lines."""
+    """Returns the attempts in the record of a bus: the time in microseconds, and the line."""
     with open(server.path(f"{name}.rec"), encoding="utf-8") as record:
         lines = [line for line in record if line.startswith("attempt ")]
     return [(micros(line.split(" ")[1]), line) for line in lines]
 
 
 def quiet(server: Server, name: str) -> Plain:
-    """Opens a session that gets no frames, so that it only reads replies."""
+    """Opens a session that gets no frames, so that the client only reads replies."""
     client = raw(server, name)
     assert client.answer("< filter 0 >") == "< ok >"
     return client
 
 
 def waiting(client: Plain) -> int:
-    """Returns the number of waiting frames at the session's interface."""
+    """Returns the number of frames that wait at the session's interface."""
     return int(client.answer("< stats >").split(" ")[7])
 
 
@@ -96,14 +97,15 @@ def raw(server: Server, name: str) -> Plain:
 
 
 def received(client: Plain) -> int:
-    """Returns the time of the next frame, in microseconds."""
+    """Returns the timestamp of the next frame, in microseconds."""
     return micros(re.search(r" (\d+\.\d{6}) ", client.text())[1])
 
 
 @patiently
 @pytest.mark.parametrize("nominal", [5_000, 125_000, 1_000_000])
 def test_moments_are_those_of_the_bench(nominal: int, rng: random.Random) -> None:
-    """waiting frames follow one another without gaps, as on a bench whose time is set to the first send"""
+    """Waiting frames follow one another without gaps, with the same times as on a bench whose time is set to the first
+    send."""
     rates = Rates(nominal, rng.choice([None, nominal, 8 * nominal]))
     frames = [random_frame(rng) for _ in range(12)]
     with serving(*rate_options(rates), "--txqueue", "1024", "can0,can1") as server:
@@ -118,13 +120,13 @@ def test_moments_are_those_of_the_bench(nominal: int, rng: random.Random) -> Non
     options = [*rate_options(rates), "--txqueue", "1024"]
     written = [line.split(" at ")[1] for line in bench(program(), options, ["can0", "can1"], lines)]
     assert moments == made == [micros(text) for text in written]
-    # The wire is busy all the time, except for the last intermission and the rounding of times.
+    # The bus is busy all the time, except for the last intermission and the rounding of times.
     assert re.match(r"load (?:100\.0|99\.\d) %: ", said), said
 
 
 @patiently
 def test_each_bus_has_bit_rates_of_its_own(rng: random.Random) -> None:
-    """a value belongs to the bus of its name, and the value without a name to the buses without their own"""
+    """A bit rate with a name applies to the bus of that name, and a bit rate without a name to all other buses."""
     buses = {"can0": Rates(500_000, 2_000_000), "body0": Rates(125_000, 2_000_000), "fd0": Rates(500_000, 8_000_000)}
     words = "--bitrate 500000 --dbitrate fd1=8000000 --bitrate body1=125000 --dbitrate 2000000 --txqueue 1024".split()
     frames = [random_frame(rng) for _ in range(12)]
@@ -151,7 +153,7 @@ def test_each_bus_has_bit_rates_of_its_own(rng: random.Random) -> None:
 @pytest.mark.quiet
 @patiently
 def test_a_bus_without_bit_rate_is_beside_one_with_it() -> None:
-    """the bus continues by --pace, and its load is 0"""
+    """A bus without a bit rate, next to a bus with one, runs at --pace, and its load is 0."""
     with serving("--bitrate", "body0=5000", "can0,can1", "body0,body1") as server:
         can0, can1, body0 = plain(server, "can0"), plain(server, "can1"), plain(server, "body0")
         assert [one.answer("< load >") for one in (can0, body0)] == ["< load 0 0 0 0 >", "< load 0 0 5000 5000 >"]
@@ -159,14 +161,14 @@ def test_a_bus_without_bit_rate_is_beside_one_with_it() -> None:
         can0.write(10 * send(EIGHT_BYTES))
         for _ in range(10):
             received(can1)
-        # Ten frames would take 222 ms and more at 5,000 bit/s.
+        # At 5,000 bit/s ten frames would take 222 ms or more.
         assert time.monotonic() - begun < 10 * Rates(5_000).frame_nanos(EIGHT_BYTES) / SECOND
         end_in_time(server)
 
 
 @patiently
 def test_random_frames_and_faults(rng: random.Random) -> None:
-    """two nodes send with pauses, and some attempts fail: no attempt begins before the end of the one before"""
+    """If two nodes send with pauses and some attempts fail, no attempt begins before the end of the previous one."""
     rates = Rates(500_000, 2_000_000)
     with serving(*rate_options(rates), "--txqueue", "100", "--auto-restart", "128", "can0,can1") as server:
         clients = [quiet(server, "can0"), quiet(server, "can1")]
@@ -187,7 +189,7 @@ def test_random_frames_and_faults(rng: random.Random) -> None:
 @patiently
 @pytest.mark.parametrize("nominal", [5_000, 500_000])
 def test_nobody_gets_a_frame_before_its_end(nominal: int) -> None:
-    """a client gets a frame after its end, and so an answer begins after that"""
+    """A client gets a frame only after the frame's end, so an answer begins after that."""
     rates, frame = Rates(nominal), EIGHT_BYTES
     lasts = rates.frame_nanos(frame) / SECOND
     with serving(*rate_options(rates), "can0,can1") as server:
@@ -208,7 +210,7 @@ def test_nobody_gets_a_frame_before_its_end(nominal: int) -> None:
 @pytest.mark.quiet
 @patiently
 def test_sender_gets_its_frame_at_its_end() -> None:
-    """this also holds for loopback, and the reply to a send comes at once"""
+    """A sender gets its own frame by loopback only after the frame's end, but the reply to the send at once."""
     rates, frame = Rates(5_000), Frame.read("123#11")
     with serving("--bitrate", "5000", "can0") as server:
         can0 = plain(server, "can0")
@@ -223,7 +225,7 @@ def test_sender_gets_its_frame_at_its_end() -> None:
 
 @patiently
 def test_recovery_takes_128_times_11_bits() -> None:
-    """an interface that went bus off on an idle bus returns 128 * 11 bits after its last attempt"""
+    """An interface that goes bus off on an idle bus returns 128 * 11 bits after its last attempt."""
     rates, frame = Rates(20_000), Frame.read("123#11")
     with serving("--bitrate", "20000", "--auto-restart", "128", "can0,can1") as server:
         can0 = plain(server, "can0")
@@ -243,12 +245,12 @@ def test_recovery_takes_128_times_11_bits() -> None:
 
 
 def test_late_server_leaves_out_what_it_missed() -> None:
-    """a stopped server reports its delay, once a minute for each bus, and continues from then"""
+    """A server that was stopped reports its delay once a minute for each bus, and continues from the current time."""
     rates = Rates(50_000)
     usual = rates.attempt_nanos(EIGHT_BYTES) // MICRO
     with serving_alone(*rate_options(rates), "--txqueue", "1024", "--verbose", "car0", "can0,can1") as server:
         can0, can1 = plain(server, "can0"), plain(server, "can1")
-        # These are more than two seconds of frames, so that some wait at each stop.
+        # These frames take more than two seconds, so that some still wait at each stop.
         can0.write(1000 * send(EIGHT_BYTES))
         moments = [received(can1)]
         for _ in range(2):
@@ -272,8 +274,8 @@ def test_late_server_leaves_out_what_it_missed() -> None:
 @pytest.mark.skipif(not shutil.which("cc"), reason="no C compiler: cc")
 @pytest.mark.parametrize("words, later", [(["--bitrate", "500000"], 0), ([], 3600)])
 def test_a_clock_that_is_set(words: Sequence[str], later: int, tmp_path: pathlib.Path) -> None:
-    """the clock is set by an hour (set_clock.c): times with bit rates continue as before, and others follow the
-    clock"""
+    """If the clock is set by an hour (set_clock.c), times with a bit rate continue as before, and times without one
+    follow the clock."""
     library, changed = tmp_path / "set_clock.so", tmp_path / "changed"
     source = os.path.join(ROOT, "tests", "helpers", "set_clock.c")
     subprocess.run(["cc", "-O2", "-Wall", "-Werror", "-fPIC", "-shared", "-o", library, source], check=True)
@@ -296,7 +298,7 @@ def test_a_clock_that_is_set(words: Sequence[str], later: int, tmp_path: pathlib
 @pytest.mark.quiet
 @patiently
 def test_end_waits_for_no_frame() -> None:
-    """waiting frames are tried at the end with the times that they would have had, and the server ends at once"""
+    """At the end, waiting frames are tried with the times that they would have had, and the server ends at once."""
     rates = Rates(5_000)
     with serving(*rate_options(rates), "--txqueue", "1024", "can0,can1") as server:
         can0 = quiet(server, "can0")
@@ -315,7 +317,7 @@ def test_end_waits_for_no_frame() -> None:
 @patiently
 @pytest.mark.parametrize("words", [[], ["--record", "none"]])
 def test_nothing_spins(words: Sequence[str]) -> None:
-    """no thread runs while no frame waits, and few run during a frame"""
+    """The server uses almost no processor time while no frame waits, and little while frames last."""
     with serving_alone("--bitrate", "5000", *words, "can0,can1") as server:
         can0 = plain(server, "can0")
         can0.write(send(EIGHT_BYTES))
@@ -342,8 +344,8 @@ class Filling:
         self.sender.socket.sendall(count * self.text)
 
     def take(self) -> tuple[float, float]:
-        """Waits for frames, reads the available ones, and sends as many. Returns the time of the last arrival, and
-        its timestamp."""
+        """Waits for frames, reads all that have arrived, and sends as many. Returns the time of the last arrival, and
+        the frame's timestamp."""
         whole = 0
         while not whole:
             self.left += self.receiver.socket.recv(1 << 20)
@@ -353,7 +355,7 @@ class Filling:
         return came, float(taken.split()[-3])
 
     def run(self, seconds: float) -> list[tuple[float, float]]:
-        """Returns the arrival times and timestamps of frames in these seconds, after the bus is full."""
+        """Returns the arrival times and timestamps of frames during this many seconds, after the bus is full."""
         self.send(WINDOW)
         begun, arrivals = time.monotonic() + 1, [self.take()]
         while arrivals[-1][0] < begun + seconds:
@@ -362,8 +364,8 @@ class Filling:
 
 
 def least_late(arrivals: list[tuple[float, float]]) -> tuple[float, float]:
-    """Returns the arrival of the frame that was least late, and its delay, except for the difference of two clocks. On
-    a busy machine others are later, and none comes early."""
+    """Returns the arrival time and the delay of the frame that was least late. The delay includes the difference of two
+    clocks. On a busy machine other frames are later, but none arrives early."""
     late, came = min((came - moment, came) for came, moment in arrivals)
     return came, late
 
@@ -374,7 +376,7 @@ def least_late(arrivals: list[tuple[float, float]]) -> tuple[float, float]:
     "nominal", [500_000, *(pytest.param(rate, marks=pytest.mark.slow) for rate in (125_000, 1_000_000))]
 )
 def test_mean_rate(nominal: int) -> None:
-    """a full bus has its bit rate, within 0.1 % over ten seconds: the times by the bit rate agree with the clock"""
+    """A full bus has its bit rate within 0.1 % over ten seconds, so the timestamps agree with the clock."""
     rates, sizes = Rates(nominal), ["--txqueue", str(WINDOW), "--rxqueue", "65536", "--write", "16384"]
     with serving(*rate_options(rates), *sizes, "can0,can1") as server:
         arrivals = Filling(server, EIGHT_BYTES).run(11)

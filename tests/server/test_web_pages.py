@@ -1,8 +1,7 @@
-"""A page in a browser can't put frames on a bus: its requests to the server's port do not begin like a client.
+"""A page in a browser can't put frames on a bus, because its requests to the server's port do not begin like a client.
 
-A page of another site needs nobody's leave to send by `fetch` with mode `no-cors`, and may not read what comes back:
-that is all that it needs to send messages. After DNS rebinding a page is of the server's own site, and may choose any
-method.
+A page of another site may send by `fetch` with mode `no-cors` without any permission. It may not read the response, but
+it does not need to. After DNS rebinding a page has the server's own origin, and may choose any method.
 """
 
 import contextlib
@@ -18,10 +17,10 @@ import pytest
 from commands import BROWSER
 from serving import WAIT, come_true, plain, serving
 
-# The start of Chromium takes up to half a minute on a busy machine.
+# Chromium takes up to half a minute to start on a busy machine.
 PATIENCE = 60
 MESSAGES = "< open can0 >< rawmode >< send 123 1 11 >"
-# Chromium opens no connection to ports below 1024 and some others; the server's port is none of these.
+# Chromium opens no connection to ports below 1024 and to some other ports; the server's port is none of these.
 PAGE = """<!DOCTYPE html>
 <script>
 async function tries() {
@@ -43,7 +42,7 @@ tries();
 
 
 class Pages(http.server.ThreadingHTTPServer):
-    """Serves the page, and notes when its script runs, and when the script has ended."""
+    """Serves the page, and notes when its script runs and when the script has ended."""
 
     daemon_threads = True
 
@@ -85,7 +84,7 @@ def page_of(text):
 
 @contextlib.contextmanager
 def browsing(port, folder):
-    """Opens the page at this port in a browser."""
+    """Opens the page at this port in a browser, and ends the browser afterwards."""
     words = ["--headless=new", "--no-sandbox", "--disable-gpu", "--no-first-run", f"--user-data-dir={folder}"]
     browser = subprocess.Popen(
         [BROWSER, *words, f"http://127.0.0.1:{port}/"],
@@ -101,7 +100,7 @@ def browsing(port, folder):
 
 
 def sent(server):
-    """Returns the number of frames that can0 has accepted, from the server's reply to a session there."""
+    """Returns the number of frames that can0 has accepted, as the server reports it."""
     client = plain(server, "can0")
     counts = client.answer("< stats >").split()
     client.close()
@@ -117,7 +116,7 @@ def test_a_page_sends_no_frames(server, tmp_path):
     assert sent(server) == 0
 
 
-# The server takes over the page's origin, as after DNS rebinding: requests of any method then need no permission.
+# The server takes over the page's origin, as after DNS rebinding, so requests of any method need no permission.
 REBOUND = """<!DOCTYPE html>
 <script>
 async function is_said(address) {
@@ -154,7 +153,7 @@ def test_a_page_of_the_same_origin_sends_no_frames(tmp_path):
 
 
 METHODS = ("GET", "POST", "OPTIONS", "PUT", "HEAD", "DELETE", "PATCH", "CONNECT", "TRACE", "get", "patch", "FOO", "x")
-# The first bytes of other programs than clients, up to the messages.
+# The first bytes that programs other than clients send, up to the messages.
 STRANGERS = {
     **{f"{method} of HTTP": f"{method} / HTTP/1.1\r\nHost: x\r\n\r\n".encode() for method in METHODS},
     "HTTP after blank lines": b"\r\n\r\nGET / HTTP/1.1\r\n\r\n",
@@ -174,7 +173,7 @@ STRANGERS = {
 
 
 def heard_after(server, pieces):
-    """Returns the answer to a connection that sends these pieces, up to its end or the first reply."""
+    """Sends these pieces on a new connection; returns all bytes received until its end or the first `< ok >`."""
     heard = b""
     with socket.create_connection((server.host, server.port), WAIT) as connection:
         connection.setsockopt(socket.IPPROTO_TCP, socket.TCP_NODELAY, 1)
@@ -190,14 +189,14 @@ def heard_after(server, pieces):
 @pytest.mark.parametrize("size", [4096, 1], ids=["whole", "cut"])
 @pytest.mark.parametrize("first", STRANGERS.values(), ids=STRANGERS)
 def test_a_stranger_is_not_heard(server, first, size):
-    """its connection ends without a reply to any message in it, and others are served as before"""
+    """The connection of a stranger ends without a reply to any of its messages, and other clients are served as before."""
     text = first + MESSAGES.encode()
     heard = heard_after(server, [text[start : start + size] for start in range(0, len(text), size)])
     assert heard in (b"", b"< hi >")
     assert sent(server) == 0
 
 
-# The first bytes of clients, before their messages: text outside messages is skipped.
+# The first bytes that clients send, before their messages. Text outside messages is skipped.
 CLIENTS = {
     "at once": b"",
     "after a blank": b" ",
@@ -211,7 +210,7 @@ CLIENTS = {
 @pytest.mark.parametrize("size", [4096, 1], ids=["whole", "cut"])
 @pytest.mark.parametrize("first", CLIENTS.values(), ids=CLIENTS)
 def test_a_client_is_heard(server, first, size):
-    """this also holds if blanks and control bytes come after its first message"""
+    """A client is served even if blanks, control bytes or text come before or between its messages."""
     text = first + b"< open can0 > GET / \0 < rawmode >< send 123 1 11 >"
     with socket.create_connection((server.host, server.port), WAIT) as connection:
         for start in range(0, len(text), size):
@@ -220,7 +219,7 @@ def test_a_client_is_heard(server, first, size):
 
 
 def test_curl_and_openssl_are_not_heard(server):
-    """requests and handshakes of these programs are refused, if they are installed"""
+    """Requests and handshakes of curl and openssl are refused, if these programs are installed."""
     address = f"{server.host}:{server.port}"
     commands = [
         ["curl", "-s", "-m", "10", "-X", word, "-d", MESSAGES, f"http://{address}/"] for word in ("POST", "get", "FOO")
