@@ -24,7 +24,7 @@ use Rattle.can_station.specs.Passes.{PassSeen, AllMatch, AllMarked}
 use Rattle.std.proofs.lemmas.List.Elements.{All-weaker}
 use Rattle.can_station.proofs.Replies.{after-entered, after-kept}
 
--- The marks of a history with one more entry.
+-- Facts about the marks of a history with one more entry.
 
 if_same : (p : ℕ) (x y : List Entry) → (if p == p then x else y) ≡ x
 if_same p x y = rw (same p) refl
@@ -50,7 +50,7 @@ marked-more lists ms past p e h lt =
           (λ (n : q ≢ p). row_added_else lists p q e n ∙ (h.each q ∙ sym (if_other p q (e ∷ marked q ms past) (marked q ms past) (λ is. n (sym is)))));
     }
 
--- A new station has not noted any call.
+-- The state of a new station is consistent: no pass has made a call.
 pub booked_first : (number : ℕ) (j : Journal) → IsLongConfig j.config → j.history ≡ [] → IsBooked (roll_seen number [] []) j
 booked_first number j proper empty = subst (λ (past : List Entry). IsBooked (roll_seen number [] []) (record { config = j.config; history = past })) (sym empty) (record {
   proper = proper;

@@ -8,7 +8,7 @@ use Rattle.can_bus.specs.Answer.{Answers, Noted}
 use Rattle.can_record.specs.Journal.{Journal}
 use Rattle.can_bus.specs.Run.{IsAnswer, history_after}
 
--- The bus after a send or a receive, which return their value without a reply. A call that returns a value is noted.
+-- The bus after a send or a receive. Both return their value directly instead of in a reply. A call that returns a value is noted.
 
 module _ {A : Type 0} (value : A → Reply) (e : Event) (old new : Journal) (notes : (a : A) → Noted old e (value a) new → new ≡ record old { history = history_after e (value a) old.history }) (lawful : (a : A) → Noted old e (value a) new → IsAnswer old.config old.history e (value a)) where
   leaves : (outcome : Result A Refusal) → Answers value old e outcome new → new ≡ record old { history = history_after e (told value outcome) old.history }

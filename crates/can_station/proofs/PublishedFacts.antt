@@ -145,7 +145,7 @@ all_true keeper number j gauges is seen =
     All-weaker (λ (g : Readings). AreEndsOf g.lists keeper.lists) (λ (g : Readings). (i : ℕ) → i < j.config.ifaces → IsSuffix (published g.lists i) (publications_of j.config j.history i))
     (λ g ends i below. subst (IsSuffix (published g.lists i)) (is.each i below) (ends i)) gauges seen
 
--- The length of a legal history fits a word.
+-- The length of a legal history fits in a word.
 pub short : (c : BusConfig) (past : List Entry) (n : ℕ) → IsLongConfig c → IsLegal c past → n ≡ length past → n < 4294967296
 short c past n proper legal is =
     let few : length past ≤ c.limit = legal-short c past legal in

@@ -14,7 +14,7 @@ use Rattle.can_rules.specs.declared.rules.RuleRefusal.{RuleRefusal}
 use Rattle.can_roll.specs.Lists.{call_added}
 use Rattle.can_roll.specs.Seen.{RollSeen, SlipSeen, roll_seen, slip_seen}
 
--- A station, and the state under its lock (own).
+-- A station and the state that its lock protects (own).
 
 -- A station: its number and the configuration of its bus.
 pub record StationSeen : Type 0 where
@@ -25,8 +25,8 @@ pub record StationSeen : Type 0 where
 abbrev pub station_seen : ℕ → BusConfig → StationSeen
 station_seen number config = record { number = number; config = config }
 
--- The state under the station's lock: the station's number, its bus, the calls of each pass, the source of verdicts,
--- the plan of faults, the lines about the plan's rules, and whether the station was stopped.
+-- The state that the station's lock protects: the station's number, its bus, the calls of each pass, the source of verdicts, the
+-- plan of faults, the lines about the plan's rules, and whether the station was stopped.
 pub record Held (F : Type 0) : Type 0 where
   pub number : ℕ
   pub journal : Journal
@@ -36,7 +36,7 @@ pub record Held (F : Type 0) : Type 0 where
   pub changes : LinesSeen
   pub stopped : Bool
 
--- A bus with this journal exists that has no free place for an entry.
+-- There is a bus with this journal that has no room for another entry.
 abbrev pub HasNoPlace : {B : Type 0} → (B → Journal) → (B → ℕ) → Journal → Type 0
 HasNoPlace {B} journal places j = (bus : B) × (journal bus ≡ j) × (places bus ≡ 0)
 
@@ -61,33 +61,32 @@ with_plan_lines plan changes h = record h { plan = plan; changes = changes }
 abbrev pub next_number : {F : Type 0} → Held F → ℕ
 next_number h = length (tape h.journal.history)
 
--- If a rule with this text is accepted, the plan may change and a line for the rule is appended. Otherwise nothing
--- changes.
+-- If the rule in this string is accepted, the plan may change and a line for the rule is appended. Otherwise nothing changes.
 abbrev pub TakesRule : {F : Type 0} → List ℕ → Held F → Result (Unit {0}) RuleRefusal → Held F → Type 0
 TakesRule words old (Ok done) new = new ≡ with_plan_lines new.plan (with_given (next_number old) words old.changes) old
 TakesRule words old (Err why) new = new ≡ old
 
--- The state after all rules end. If there were any rules, a line for their end is appended.
+-- The state after all rules are ended. If there were any rules, a line that records their end is appended.
 abbrev pub after_end : {F : Type 0} → Held F → Held F
 after_end h =
     if length h.plan.rules == 0 then h
     else with_plan_lines (without_rules h.plan) (with_end (next_number h) h.changes) h
 
--- All lines about the rules are taken out, or no lines if memory is refused.
+-- All lines about the rules are removed and returned, or no lines if an allocation fails.
 abbrev pub LinesTaken : {F : Type 0} → Held F → List ℕ → Held F → Type 0
 LinesTaken old lines new =
     ((lines ≡ text_of_lines old.changes) × (new ≡ with_plan_lines old.plan (with_none_left old.changes) old))
     ⊎ ((lines ≡ []) × (new ≡ old))
 
--- The calls of each pass after a call of pass p.
+-- The calls of each pass after pass p makes a call.
 abbrev pub lists_after : ℕ → Event → Reply → List (List Entry) → List (List Entry)
 lists_after p e r lists = if enters r then call_added lists p (entry_of e r) else lists
 
--- The roll after a call of pass p.
+-- The roll after pass p makes a call.
 abbrev pub roll_after : ℕ → Event → Reply → RollSeen → RollSeen
 roll_after p e r roll = roll_seen roll.number (lists_after p e r roll.lists) roll.called
 
--- The state after a call of pass p; the call is one event of the bus.
+-- The state after pass p makes a call. The call is one event of the bus.
 abbrev pub held_after : {F : Type 0} → ℕ → Event → Reply → Held F → Held F
 held_after p e r h = record {
   number = h.number;
@@ -99,11 +98,11 @@ held_after p e r h = record {
   stopped = h.stopped;
 }
 
--- The slip after a call of its own pass.
+-- The slip after its pass makes a call.
 abbrev pub slip_after : Event → Reply → SlipSeen → SlipSeen
 slip_after e r s = record { number = s.number; pass = s.pass; calls = history_after e r s.calls }
 
--- The state with one more pass, which has not made a call yet.
+-- The state after one more pass enters. The new pass has not made a call yet.
 abbrev pub with_pass : {F : Type 0} → Held F → Held F
 with_pass h = record h { lists = h.lists ++ [] ∷ [] }
 

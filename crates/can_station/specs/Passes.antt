@@ -31,7 +31,7 @@ use Rattle.can_station.specs.Marks.{IsMarked, marked}
 use Rattle.can_station.specs.declared.refusals.StationRefusal.{StationRefusal}
 use Rattle.can_station.specs.declared.refusals.StationRefusal.TheVariants as station
 
--- Passes as their callers see them, and the effects of calls on a station (own).
+-- Passes as callers see them and the effects of calls on a station (own).
 
 -- A pass: the number of its station, the number of the pass, its calls (newest first), and whether it keeps them as a
 -- list that a program can read.
@@ -57,7 +57,7 @@ pass_seen slip listed = record { number = slip.number; pass = slip.pass; calls =
 abbrev pub kept_calls : PassSeen → List Entry
 kept_calls p = if p.keeps then p.calls else []
 
--- The pass after a call. The call is recorded with its reply, unless the record was full or memory was refused.
+-- The pass after a call. The call is recorded with its reply, unless the record was full or an allocation failed.
 abbrev pub pass_after : Event → Reply → PassSeen → PassSeen
 pass_after e r p = record p { calls = history_after e r p.calls }
 
@@ -77,23 +77,23 @@ abbrev pub AreListedCalls : Option (List Entry) → List Entry → Type 0
 AreListedCalls None calls = Unit {0}
 AreListedCalls (Some listed) calls = listed ≡ calls
 
--- The list has memory for any call except a close: a place for the call, a second place for a later close, and spare
--- memory for a wide entry. A pass without a list needs no memory.
+-- The list has memory for any call except a close: room for the call, room for a later close, and spare memory for a wide entry. A
+-- pass without a list needs no memory.
 abbrev pub HasMemoryForCall : Option ListedEntries → Type 0
 HasMemoryForCall None = Unit {0}
 HasMemoryForCall (Some calls) = (length calls.entries + 1 < calls.room) × (calls.spare ≡ true)
 
--- If the pass keeps a list, the list has a place for one more call.
+-- If the pass keeps a list, the list has room for one more call.
 abbrev pub HasPlaceForCall : Option ListedEntries → Type 0
 HasPlaceForCall None = Unit {0}
 HasPlaceForCall (Some calls) = length calls.entries < calls.room
 
--- The list has memory for this call. A close needs only one place, because it is never wide.
+-- The list has memory for this call. A close needs room for only one entry, because it is never wide.
 abbrev pub IsReadyFor : Event → Option ListedEntries → Type 0
 IsReadyFor (event.Close s) calls = HasPlaceForCall calls
 IsReadyFor e calls = HasMemoryForCall calls
 
--- The event is a close, and the list has a place for it.
+-- The event is a close, and the list has room for it.
 abbrev pub CanClose : Event → Option ListedEntries → Type 0
 CanClose (event.Close s) calls = HasPlaceForCall calls
 CanClose e calls = ⊥
@@ -109,8 +109,8 @@ Called told number old e (Err station.WrongStation) new = ¬ (old.number ≡ num
 abbrev pub IsAnsweredIn : {F : Type 0} → Held F → Event → Reply → Type 0
 IsAnsweredIn held e r = IsAnswer held.journal.config held.journal.history e r
 
--- The event is carried out for the pass with this slip. The bus gives its reply, and the record and the slip note the
--- event and the reply.
+-- The event is carried out for the pass with this slip. The bus gives its reply, and the event and the reply are noted in the
+-- record and in the slip.
 pub record IsCarriedOutForSlip {F : Type 0} (old : Held F) (slip : SlipSeen) (e : Event) (r : Reply) (new : Held F)
     (slip' : SlipSeen) : Type 0 where
   pub answer : IsAnsweredIn old e r
@@ -123,7 +123,7 @@ abbrev pub IsReceivedForSlip :
 IsReceivedForSlip old slip socket room outcome new slip' =
     IsCarriedOutForSlip old slip (event.Receive socket) (receive_reply room outcome) new slip'
 
--- A send with this outcome is carried out in the same way.
+-- A send with this outcome is carried out for the pass with this slip.
 abbrev pub IsSentForSlip :
     {F : Type 0} → Held F → SlipSeen → SocketId → CanFrame → Result ℕ Refusal → Held F → SlipSeen → Type 0
 IsSentForSlip old slip socket frame outcome new slip' =
@@ -134,7 +134,7 @@ abbrev pub ChangesNothing :
     {F : Type 0} → Held F → SlipSeen → Option ListedEntries → Held F → SlipSeen → Option ListedEntries → Type 0
 ChangesNothing old slip calls new slip' calls' = (new ≡ old) × (slip' ≡ slip) × (calls' ≡ calls)
 
--- A pass's list after a call. The call is added with its reply, unless the record was full or memory was refused.
+-- A pass's list after a call. The call is added with its reply, unless the record was full or an allocation failed.
 abbrev pub listed_after : Event → Reply → Option (List Entry) → Option (List Entry)
 listed_after e r None = None
 listed_after e r (Some listed) = Some (history_after e r listed)
@@ -143,7 +143,7 @@ listed_after e r (Some listed) = Some (history_after e r listed)
 abbrev pub Keeps : Option ListedEntries → Event → Reply → Option ListedEntries → Type 0
 Keeps old e r new = calls_listed new ≡ listed_after e r (calls_listed old)
 
--- The call is carried out. The bus gives its reply, and the record and the caller's pass note the call and the reply.
+-- The call is carried out. The bus gives its reply, and the call and the reply are noted in the record and in the caller's pass.
 pub record IsMade {F : Type 0} (old : Held F) (pass : PassSeen) (e : Event) (r : Reply) (new : Held F)
     (pass' : PassSeen) : Type 0 where
   pub own : pass.number ≡ old.number
@@ -181,31 +181,30 @@ next_try journal = next_head journal.config journal.history
 abbrev pub next_verdict : {F : Type 0} → (F → VerdictMap) → Held F → Verdict
 next_verdict verdicts held = given (source_verdict verdicts held) held.plan (next_number held) (next_try held.journal)
 
--- The plan after it was asked about the next attempt.
+-- The plan after it has been queried for the next attempt.
 abbrev pub next_plan : {F : Type 0} → (F → VerdictMap) → Held F → PlanSeen
 next_plan verdicts held = plan_after (source_verdict verdicts held) held.plan (next_number held) (next_try held.journal)
 
--- The state before the next attempt, after the source and the plan were asked for its verdict.
+-- The state before the next attempt, after the source and the plan have been queried for the verdict of that attempt.
 abbrev pub asked_for_attempt : {F : Type 0} → (F → VerdictMap) → F → Held F → Held F
 asked_for_attempt verdicts source held = record held { source = source; plan = next_plan verdicts held }
 
--- The event of the next attempt, at this moment and with the verdict of the source or the plan.
+-- The event of the next attempt at the given timestamp, with the verdict of the source or the plan.
 abbrev pub next_attempt : {F : Type 0} → (F → VerdictMap) → Held F → ℕ → Event
 next_attempt verdicts held moment = event.Attempt moment (next_verdict verdicts held)
 
--- The next attempt is carried out for the pass with this slip, after the source and the plan were asked for its
--- verdict.
+-- The next attempt is carried out for the pass with this slip, after the source and the plan have been queried for the verdict.
 abbrev pub IsStepped : {F : Type 0} → (F → VerdictMap) → Held F → SlipSeen → ℕ → Reply → Held F → SlipSeen → Type 0
 IsStepped verdicts old slip moment r new slip' =
     IsCarriedOutForSlip (asked_for_attempt verdicts new.source old) slip (next_attempt verdicts old moment) r new slip'
 
--- The next attempt is carried out for a pass, after the source and the plan were asked for its verdict.
+-- The next attempt is carried out for a pass, after the source and the plan have been queried for the verdict.
 abbrev pub IsStepMade : {F : Type 0} → (F → VerdictMap) → Held F → PassSeen → ℕ → Reply → Held F → PassSeen → Type 0
 IsStepMade verdicts old pass moment r new pass' =
     IsMade (asked_for_attempt verdicts new.source old) pass (next_attempt verdicts old moment) r new pass'
 
--- A step under the lock carries out the next attempt or changes nothing. It fails if the pass's list cannot grow, the
--- bus has no place for an entry, or the pass belongs to another station.
+-- A step under the lock carries out the next attempt or changes nothing. It fails if the pass's list cannot grow, the bus has no
+-- room for an entry, or the pass belongs to another station.
 abbrev pub MadeStep : {F : Type 0} → (F → VerdictMap) → Held F → PassSeen → ℕ → Result Attempt StationRefusal
     → Held F → PassSeen → Type 0
 MadeStep verdicts old pass moment (Ok a) new pass' = IsStepMade verdicts old pass moment (reply.Attempted a) new pass'
@@ -256,15 +255,15 @@ IsNewLightPass F station p =
 abbrev pub HadNoPassLeft : (F : Type 0) → StationSeen → Type 0
 HadNoPassLeft F station = InSome F station (λ held. NoPassLeft held)
 
--- The bus gives this result in some state of the station. Nothing is claimed if memory is refused or the pass belongs
--- to another station.
+-- The bus gives this result in some state of the station. Nothing is claimed if an allocation fails or the pass belongs to another
+-- station.
 abbrev pub Answered : (F : Type 0) {A : Type 0} → (A → Reply) → StationSeen → Event → Result A StationRefusal → Type 0
 Answered F told seen e (Ok a) = InSome F seen (λ held. IsAnsweredIn held e (told a))
 Answered F told seen e (Err (station.Bus refusal.NoMemory)) = Unit {0}
 Answered F told seen e (Err (station.Bus why)) = InSome F seen (λ held. IsAnsweredIn held e (reply.Refused why))
 Answered F told seen e (Err station.WrongStation) = Unit {0}
 
--- A step is carried out in some state of the station, as an attempt whose verdict the source or the plan gives.
+-- A step is carried out in some state of the station, as an attempt with a verdict from the source or the plan.
 abbrev pub StepsIn : {F : Type 0} → (F → VerdictMap) → StationSeen → PassSeen → ℕ → Reply → PassSeen → Type 0
 StepsIn {F} verdicts seen old moment r new =
     (old.number ≡ seen.number)
@@ -281,7 +280,7 @@ Stepped verdicts seen old moment (Err (station.Bus refusal.NoMemory)) new = new 
 Stepped verdicts seen old moment (Err (station.Bus why)) new = StepsIn verdicts seen old moment (reply.Refused why) new
 Stepped verdicts seen old moment (Err station.WrongStation) new = ¬ (old.number ≡ seen.number) × (new ≡ old)
 
--- A rule with this text has this outcome in some state of the station. The bus's interfaces have these names.
+-- Adding the rule in this string has this outcome in some state of the station. The bus's interfaces have these names.
 abbrev pub InjectsIn : (F : Type 0) → StationSeen → List (List ℕ) → List ℕ → Result (Unit {0}) RuleRefusal → Type 0
 InjectsIn F seen names text outcome =
     InSome F seen (λ held. (after : PlanSeen) × Injected names text held.plan outcome after)

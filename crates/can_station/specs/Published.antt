@@ -22,13 +22,13 @@ use Rattle.can_station.specs.Passes.{PassSeen, AllOf, SomeOther}
 abbrev pub are_same : ErrorCounts → ErrorCounts → Bool
 are_same a b = a.tec == b.tec && (a.rec == b.rec && beq a.down b.down)
 
--- An interface's publications, newest first, after the entry that brings the record to length `at`.
+-- An interface's publications, newest first, after the entry with which the record reaches length `at`.
 abbrev pub published_after : ErrorCounts → ErrorCounts → ℕ → List Status → List Status
 published_after old new at before =
     if are_same old new then before else record { at = at; counters = new } ∷ before
 
--- The publications of interface i, newest first. Each entry that changes the interface's error counters adds one: the
--- length of the record with that entry, and the new counters.
+-- The publications of interface i, newest first. Each entry that changes the interface's error counters adds a publication: the
+-- length of the record including that entry, and the new counters.
 abbrev pub publications_of : BusConfig → List Entry → ℕ → List Status
 publications_of c [] i = []
 publications_of c (e ∷ past) i =

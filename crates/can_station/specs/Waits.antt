@@ -10,7 +10,7 @@ use Rattle.can_station.specs.Held.{Held}
 use Rattle.can_station.specs.declared.waits.WakeReason.{WakeReason}
 use Rattle.can_station.specs.declared.waits.WakeReason.TheVariants as wake
 
--- The conditions that end a wait, and reports of a station that are not events (own).
+-- The conditions that end a wait and the queries of a station that are not events (own).
 
 -- The reason `Stopped`, which ends every wait, if the station was stopped.
 abbrev pub stopped_wake : Bool → Option WakeReason
@@ -38,7 +38,7 @@ IsNearlyFull j = j.config.limit - j.config.limit / 10 ≤ length j.history
 abbrev pub work_wake : {F : Type 0} → Held F → Option WakeReason
 work_wake h = if has_work h.journal then Some wake.Ready else stopped_wake h.stopped
 
--- There is no work and the station was stopped, so its driver ends.
+-- There is no work and the station was stopped, so the driver stops.
 abbrev pub IsIdleAndStopped : {F : Type 0} → Held F → Type 0
 IsIdleAndStopped h = (has_work h.journal ≡ false) × (h.stopped ≡ true)
 
@@ -55,7 +55,7 @@ items_waiting_at j s = items_left (socket_stats_of j.config j.history s)
 abbrev pub EndsItemWait : {F : Type 0} → Held F → ℕ → WakeReason × ℕ → Type 0
 EndsItemWait h s end = (frame_wake h s ≡ Some end.0) × (end.1 ≡ items_waiting_at h.journal s)
 
--- The counts are those of socket s and of interface i.
+-- The counts are the statistics of socket s and of interface i.
 abbrev pub AreCounts : Journal → ℕ → ℕ → Option SocketStats × Option IfaceStats → Type 0
 AreCounts j s i counts =
     (counts.0 ≡ socket_stats_of j.config j.history s) × (counts.1 ≡ iface_stats_of j.config j.history i)

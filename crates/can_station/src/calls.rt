@@ -38,8 +38,8 @@ impl<N: BusName, F: FaultSource + Drop, G: Gate + Drop, B: Journaled> Station<N,
             .map_err(StationRefusal::Bus)
     }
 
-    /// Closes a socket, and returns its number of unread items and its number of dropped items. Refusals of the bus: `RecordFull`,
-    /// `NoSocket`.
+    /// Closes a socket, and returns the number of its unread items and the number of its dropped items. Refusals of the bus:
+    /// `RecordFull`, `NoSocket`.
     pub fn close<R: Wait>(
         &self,
         rt: &R,
@@ -115,7 +115,7 @@ impl<N: BusName, F: FaultSource + Drop, G: Gate + Drop, B: Journaled> Station<N,
             .map_err(StationRefusal::Bus)
     }
 
-    /// Takes the oldest item from a socket, or returns `None` if no item waits. Refusals of the bus: `RecordFull`, `NoSocket`.
+    /// Takes the oldest item from a socket, or returns `None` if no item is queued. Refusals of the bus: `RecordFull`, `NoSocket`.
     pub fn receive<R: Wait>(
         &self,
         rt: &R,
@@ -133,9 +133,8 @@ impl<N: BusName, F: FaultSource + Drop, G: Gate + Drop, B: Journaled> Station<N,
     }
 
     /// Tries the frame that wins arbitration, with this verdict instead of the verdict of the source. Returns `Idle` if no live
-    /// interface has a frame to send. Interfaces whose restart count has run out are restarted first. An attempt that tries a frame
-    /// takes the next attempt number, and the source's verdict for that number is then never used. Refusal of the bus:
-    /// `RecordFull`.
+    /// interface has a frame to send. Interfaces that are due for a restart are restarted first. An attempt that tries a frame uses
+    /// the next attempt number, and the source's verdict for that number is then never used. Refusal of the bus: `RecordFull`.
     pub fn attempt<R: Wait>(
         &self,
         rt: &R,
@@ -154,8 +153,8 @@ impl<N: BusName, F: FaultSource + Drop, G: Gate + Drop, B: Journaled> Station<N,
             .map_err(StationRefusal::Bus)
     }
 
-    /// Restarts an interface that is bus off or down, at this moment. Refusals of the bus: `RecordFull`, `NoInterface`,
-    /// `NotBusOff`.
+    /// Restarts an interface that is bus off or down, with the timestamp `moment`. Refusals of the bus: `RecordFull`,
+    /// `NoInterface`, `NotBusOff`.
     pub fn restart<R: Wait>(
         &self,
         rt: &R,
@@ -173,8 +172,8 @@ impl<N: BusName, F: FaultSource + Drop, G: Gate + Drop, B: Journaled> Station<N,
             .map_err(StationRefusal::Bus)
     }
 
-    /// Takes an interface down, at this moment. The interface takes no part in traffic until it is restarted, and the frames in its
-    /// transmit queue are lost. Refusals of the bus: `RecordFull`, `NoInterface`.
+    /// Takes an interface down, with the timestamp `moment`. The interface takes no part in traffic until it is restarted, and the
+    /// frames in its transmit queue are lost. Refusals of the bus: `RecordFull`, `NoInterface`.
     pub fn down<R: Wait>(
         &self,
         rt: &R,

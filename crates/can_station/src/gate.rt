@@ -5,7 +5,7 @@ pub enum Point {
     BeforeStep,
     /// During each step, while the lock is held.
     InStep,
-    /// After a call of a pass that takes the lock itself, once the lock is free again.
+    /// After a pass's call that takes the lock itself, when the lock is free again.
     AfterReply,
 }
 

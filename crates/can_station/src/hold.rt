@@ -27,8 +27,8 @@ use std::alloc::Global;
 use std::marker::Model;
 use std::sync::MutexGuard;
 
-/// A station's lock, held for several calls. Each call is one event of the bus, like a call of the station. To a contract the hold
-/// is the state under the lock. When the lock is released, the threads that have new work are woken.
+/// A station's lock, held for several calls. Each call is one event of the bus, like a call of the station. In contracts, the hold
+/// is the state under the lock. When the hold is dropped, the threads that have new work are woken.
 pub struct Hold<'s, N: BusName, F: FaultSource + Drop, G: Gate + Drop, B: Journaled = RingBus> {
     pub(crate) station: &'s Station<N, F, G, B>,
     pub(crate) state: MutexGuard<'s, StationState<N, F, B>>,
@@ -125,8 +125,7 @@ impl<'s, N: BusName, F: FaultSource + Drop, G: Gate + Drop, B: Journaled> Hold<'
         Some(reply)
     }
 
-    /// Sends a frame with a pass, as the station's `send` does, and returns its number at the
-    /// interface.
+    /// Sends a frame for a pass, like the station's `send`, and returns the frame's number at the interface.
     pub fn send(
         &mut self,
         alloc: Global,
@@ -276,7 +275,8 @@ impl<'s, N: BusName, F: FaultSource + Drop, G: Gate + Drop, B: Journaled> Hold<'
         with_verdict(verdict, reply.into_attempted().map_err(StationRefusal::Bus))
     }
 
-    /// Carries out an attempt at this moment for the pass of this slip. The verdict comes from the source or from the plan.
+    /// Carries out an attempt for the pass of this slip, with the timestamp `moment`. The verdict comes from the source or from the
+    /// plan.
     pub(crate) fn carry_out_step(
         &mut self,
         alloc: Global,
@@ -328,7 +328,7 @@ impl<'s, N: BusName, F: FaultSource + Drop, G: Gate + Drop, B: Journaled> Hold<'
         Some((verdict, reply))
     }
 
-    /// Adds the rule that this text spells, like the station's `inject`.
+    /// Adds the rule in `text`, like the station's `inject`.
     pub fn inject(&mut self, text: &[u8], names: &Names) -> Result<(), RuleRefusal>
         ensures injected { Injected names.now text.now self.old.plan result self.new.plan }
         ensures takes { TakesRule text.now self.old result self.new }
@@ -336,7 +336,7 @@ impl<'s, N: BusName, F: FaultSource + Drop, G: Gate + Drop, B: Journaled> Hold<'
         self.state.inject(text, names)
     }
 
-    /// Returns the number of rules that are not used up.
+    /// Returns the number of rules that are not yet used up.
     pub fn rules(&self) -> usize
         ensures rules { result ≡ length self.now.plan.rules }
         ensures few { result ≤ 64 }

@@ -10,7 +10,7 @@ use can_bus::{Received, Refusal, SocketId};
 use can_frame::Frame;
 use can_record::PackedList;
 
-/// Returns whether a receive call with this outcome leaves an entry.
+/// Returns whether a receive call with this outcome adds an entry to the record.
 fn receive_enters(outcome: Result<bool, Refusal>) -> bool
     ensures { (room : Received) → result ≡ enters (receive_reply room outcome) }
 {
@@ -20,7 +20,7 @@ fn receive_enters(outcome: Result<bool, Refusal>) -> bool
     }
 }
 
-/// Returns whether a send with this outcome leaves an entry.
+/// Returns whether a send with this outcome adds an entry to the record.
 fn send_enters(outcome: Result<u64, Refusal>) -> bool
     ensures { result ≡ enters (told reply.Sent outcome) }
 {
@@ -30,8 +30,8 @@ fn send_enters(outcome: Result<u64, Refusal>) -> bool
     }
 }
 
-/// Adds a receive call with this outcome and `room` to the list of the pass. It adds nothing if the pass keeps no list or the call
-/// is no entry. Nothing is allocated.
+/// Adds a receive call with this outcome and `room` to the list of the pass. Adds nothing if the pass keeps no list or if the call
+/// adds no entry to the record. Nothing is allocated.
 pub(crate) fn keep_receive(
     calls: &mut Option<PackedList>,
     socket: SocketId,
@@ -49,8 +49,8 @@ pub(crate) fn keep_receive(
     }
 }
 
-/// Adds a send with this outcome to the list of the pass. It adds nothing if the pass keeps no list or the call is no entry. Nothing
-/// is allocated.
+/// Adds a send with this outcome to the list of the pass. Adds nothing if the pass keeps no list or if the call adds no entry to
+/// the record. Nothing is allocated.
 pub(crate) fn keep_send(
     calls: &mut Option<PackedList>,
     socket: SocketId,

@@ -27,7 +27,7 @@ pub struct Block {
     pub start: u64,
     pub entries: PackedRecord,
     /// The lines about rules since the previous block, in the form that `take_changes` returns. All lines that matter for the
-    /// entries of the block are included. If an allocation fails, the lines come with a later block instead.
+    /// entries of the block are included. If an allocation fails, the lines are included in a later block instead.
     pub changes: Vec<u8>,
 }
 
@@ -109,8 +109,8 @@ impl<N: BusName, F: FaultSource + Drop, G: Gate + Drop, B: Journaled> Station<N,
         Ok(())
     }
 
-    /// Waits until this many entries can be taken, until there is too little room for a call, or until this duration is over.
-    /// Returns `Stopped` after `end_entries`, and `Ready` otherwise. A bus that keeps its whole record always has room.
+    /// Waits until `many` entries can be taken, until there is too little room for a call, or until `duration` has passed. Returns
+    /// `Stopped` after `end_entries`, and `Ready` otherwise. A bus that keeps its whole record always has room.
     pub fn wait_entries<R: Wait + Clock>(
         &self,
         rt: &R,
@@ -129,7 +129,7 @@ impl<N: BusName, F: FaultSource + Drop, G: Gate + Drop, B: Journaled> Station<N,
     }
 
     /// Ends all waits for entries, now and in the future. It is called after the last call of a pass. A later call does not wait
-    /// for room: if there is none, it is refused with `NoMemory`.
+    /// for room: if there is no room, the call is refused with `NoMemory`.
     pub fn end_entries<R: Wait>(&self, rt: &R) {
         self.state.lock(rt).end_entries();
         self.written.notify_all();

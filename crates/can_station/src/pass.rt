@@ -9,8 +9,8 @@ use can_roll::{Roll, RollName, Slip};
 use std::alloc::{AllocError, Global};
 use std::marker::Model;
 
-/// A caller's pass, with the calls that were made with it. Each call takes 32 bytes. A light pass keeps no list of calls, but
-/// contracts still see its calls.
+/// A caller's pass and the calls made with it. Each call occupies 32 bytes. A light pass keeps no list of calls, but contracts
+/// still see its calls.
 #[derive(Drop)]
 pub struct Pass<N: RollName> {
     pub(crate) slip: Slip<N>,
@@ -35,7 +35,7 @@ impl<N: RollName> Pass<N> {
         self.slip.number()
     }
 
-    /// Returns the number of calls that the pass keeps: all of them, or 0 for a light pass.
+    /// Returns the number of calls that the pass stores: all of them, or 0 for a light pass.
     pub fn len(&self) -> usize
         ensures { result ≡ length (kept_calls self.now) }
     {
@@ -45,15 +45,15 @@ impl<N: RollName> Pass<N> {
         }
     }
 
-    /// Returns whether the pass keeps no calls.
+    /// Returns whether the pass stores no calls.
     pub fn is_empty(&self) -> bool
         ensures { result ≡ (length (kept_calls self.now) == 0) }
     {
         self.len() == 0
     }
 
-    /// Returns the call at this place with its reply, or `None` if the pass keeps no call there. The oldest call is at place 0.
-    /// Nothing is allocated.
+    /// Returns the call with the index `place` and its reply, or `None` if the pass stores no such call. The oldest call has index
+    /// 0. Nothing is allocated.
     pub fn call(&self, place: usize) -> Option<EntryRef<'_>>
         ensures { result ≡ slice_get (reverse (kept_calls self.now)) place }
     {
@@ -122,8 +122,8 @@ pub(crate) fn make_ready_for(
     }
 }
 
-/// Adds a call with its reply to the list of the pass. It adds nothing if the pass keeps no list or the call is no entry. Nothing
-/// is allocated.
+/// Adds a call with its reply to the list of the pass. Adds nothing if the pass keeps no list or if the call adds no entry to the
+/// record. Nothing is allocated.
 pub(crate) fn keep(calls: &mut Option<PackedList>, event: Event, reply: &Reply)
     requires ready { IsReadyFor event calls.old }
     requires suits { Suits event reply.now }

@@ -18,8 +18,8 @@ pub(crate) fn counters_before<B: Journaled>(bus: &B, event: &Event) -> Option<[C
     }
 }
 
-/// Publishes the counters that a call changed, if the call left an entry. Each publication carries the length of the record,
-/// including that entry.
+/// Publishes the counters that a call changed, if the call added an entry to the record. Each publication includes the length of
+/// the record, counting that entry.
 pub(crate) fn publish_changes<N: MeterName>(
     keeper: &mut Keeper<N>,
     reply: &Reply,

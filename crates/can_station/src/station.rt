@@ -27,7 +27,7 @@ use std::marker::Model;
 use std::sync::atomic::AtomicU8;
 use std::sync::{Condvar, Mutex, MutexGuard, Wait};
 
-/// The blanks from which a station is made: the blank of its roll and the blank of its meter.
+/// The blanks from which a station is created: one for its roll and one for its meter.
 #[derive(Drop)]
 pub struct Blanks {
     pub roll: RollBlank,
@@ -47,7 +47,7 @@ impl Blanks {
     }
 }
 
-/// A bus that several threads share. To a contract a station is its number and its configuration.
+/// A bus that several threads share. In contracts, a station is its number and its configuration.
 ///
 /// Each call of a pass, and each `step`, is one event of the bus and takes the lock once. The lock protects a [`StationState`].
 #[derive(Drop)]
@@ -80,8 +80,8 @@ impl<N: BusName, F: FaultSource + Drop, G: Gate + Drop, B: Journaled> Model
 }
 
 impl<N: BusName, F: FaultSource + Drop, G: Gate + Drop> Station<N, F, G> {
-    /// Returns a station with an empty record, which `N` names under this number. It has no plan of faults: the source gives the
-    /// verdicts of its attempts. Memory for all `limit` entries is allocated here.
+    /// Returns a station with an empty record. In contracts, `N` identifies the station's bus by this number. The station has no
+    /// plan of faults: the source gives the verdicts of its attempts. Memory for all `limit` entries is allocated here.
     ///
     /// Returns `BadConfig` exactly if the configuration is outside the limits of a bus, or if its number of interfaces differs from
     /// the number in the blanks. Returns `NoMemory` if an allocation failed.
@@ -269,7 +269,7 @@ impl<N: BusName, F: FaultSource + Drop, G: Gate + Drop, B: Journaled> Station<N,
     }
 
     /// Tries the frame that wins arbitration, or returns `Idle` if no live interface has a frame to send. A fault of the source for
-    /// this attempt takes precedence over the verdict of the plan. Interfaces whose restart count has run out are restarted.
+    /// this attempt takes precedence over the verdict of the plan. Interfaces that are due for a restart are restarted.
     ///
     /// Refusals, in order of precedence: `NoMemory` if the pass's list of calls cannot grow, `WrongStation`, `RecordFull`.
     pub fn step<R: Wait>(
@@ -295,11 +295,11 @@ impl<N: BusName, F: FaultSource + Drop, G: Gate + Drop, B: Journaled> Station<N,
         reply.into_attempted().map_err(StationRefusal::Bus)
     }
 
-    /// Adds the rule that this text spells, for interfaces with these names. The rule applies from the next attempt on, after the
-    /// rules that are not used up. This is not an event of the bus, and it wakes no thread.
+    /// Adds the rule in `text`, for interfaces with these names. The rule applies from the next attempt on, after the rules that
+    /// are not yet used up. This is not an event of the bus, and it wakes no thread.
     ///
     /// The errors, in order of precedence: `BadRule` if a word is wrong, `UnknownInterface` if only a name is unknown,
-    /// `TooManyRules` if 64 rules are not used up, `NoMemory`. `NoMemory` can also mean that 64 MiB of lines are waiting for
+    /// `TooManyRules` if 64 rules are not yet used up, `NoMemory`. `NoMemory` can also mean that 64 MiB of lines are waiting for
     /// `take_changes`. An error changes nothing.
     pub fn inject<R: Wait>(&self, rt: &R, text: &[u8], names: &Names) -> Result<(), RuleRefusal>
         ensures { InjectsIn F self.now names.now text.now result }
@@ -307,7 +307,7 @@ impl<N: BusName, F: FaultSource + Drop, G: Gate + Drop, B: Journaled> Station<N,
         self.hold(rt).inject(text, names)
     }
 
-    /// Returns the number of rules that are not used up, at most 64.
+    /// Returns the number of rules that are not yet used up, at most 64.
     pub fn rules<R: Wait>(&self, rt: &R) -> usize
         ensures rules { InSome F self.now (λ held. result ≡ length held.plan.rules) }
         ensures few { result ≤ 64 }
@@ -325,9 +325,9 @@ impl<N: BusName, F: FaultSource + Drop, G: Gate + Drop, B: Journaled> Station<N,
         self.hold(rt).keep_no_changes();
     }
 
-    /// Takes out the lines about the rules since the start or the last call of this method, in the form that
-    /// [`RunFaults`](can_rules::RunFaults) reads. There is one line for each rule taken and for each end of all rules, with the
-    /// number of the next attempt that tries a frame. Returns `AllocError` if an allocation fails; the lines are then kept.
+    /// Removes and returns the lines about the rules since the start or the last call of this method, in the form that
+    /// [`RunFaults`](can_rules::RunFaults) reads. There is one line for every accepted rule and for every end of all rules, with
+    /// the number of the next attempt that tries a frame. Returns `AllocError` if an allocation fails; the lines are then kept.
     pub fn take_changes<R: Wait>(&self, rt: &R) -> Result<Vec<u8>, AllocError>
         ensures { IfOk result (λ lines.
             InSome F self.now (λ held. lines.items ≡ text_of_lines held.changes)) }
@@ -353,9 +353,9 @@ impl<N: BusName, F: FaultSource + Drop, G: Gate + Drop, B: Journaled> Station<N,
         self.into_state(rt).settle(passes, gauges)
     }
 
-    /// Like `settle`, but also takes the scroll back. The scroll has the entries that the bus handed out, and they belong to the
-    /// same history. So its entries are the first entries of a long run. Also returns `WrongStation` exactly if the scroll belongs
-    /// to another station.
+    /// Like `settle`, but also takes the scroll back. The scroll contains the entries that the bus handed out, and they belong to
+    /// the same history. So its entries are the first entries of a long run. Also returns `WrongStation` exactly if the scroll
+    /// belongs to another station.
     pub fn settle_scroll<R: Wait>(
         self,
         rt: &R,

@@ -193,8 +193,8 @@ impl<N: BusName, F: FaultSource + Drop, B: Journaled> StationState<N, F, B> {
         self.spare.another()
     }
 
-    /// Carries out an event for the pass of this slip, and returns the reply of the bus. The event and its reply are noted in the
-    /// record and in the pass's list, and changes of the error counters are published. Returns `None` and changes nothing if the
+    /// Carries out an event for the pass of this slip, and returns the reply of the bus. The event and its reply are added to the
+    /// record and to the pass's list, and changes of the error counters are published. Returns `None` and changes nothing if the
     /// bus has no room for an entry until some entries are taken.
     pub fn call(&mut self, alloc: Global, slip: &mut Slip<N>, event: &Event) -> Option<Reply>
         requires { slip.old.number ≡ self.old.number }
@@ -217,8 +217,8 @@ impl<N: BusName, F: FaultSource + Drop, B: Journaled> StationState<N, F, B> {
         ))
     }
 
-    /// Sends a frame for the pass of this slip, as `call` does, and returns its number at the
-    /// interface. No error counter changes. Returns `None` as `call` does.
+    /// Sends a frame for the pass of this slip, like `call`, and returns the frame's number at the interface. No error counter
+    /// changes. Returns `None` in the same case as `call`.
     pub fn send(
         &mut self,
         slip: &mut Slip<N>,
@@ -266,9 +266,9 @@ impl<N: BusName, F: FaultSource + Drop, B: Journaled> StationState<N, F, B> {
         Some(outcome)
     }
 
-    /// Carries out an attempt at this moment, and returns its verdict and the reply. A fault of the source for this attempt takes
-    /// precedence over the verdict of the plan, whose rules count the attempt. Returns `None` in the same case as `call`; source
-    /// and plan are not asked then.
+    /// Carries out an attempt with the timestamp `moment`, and returns its verdict and the reply. A fault of the source for this
+    /// attempt takes precedence over the verdict of the plan, whose rules count the attempt. Returns `None` in the same case as
+    /// `call`; the source and the plan are not queried then.
     pub fn step(
         &mut self,
         alloc: Global,
@@ -302,10 +302,9 @@ impl<N: BusName, F: FaultSource + Drop, B: Journaled> StationState<N, F, B> {
         Some((verdict, reply))
     }
 
-    /// Adds the rule that this text spells, for interfaces with these names. The rule applies from the next attempt on, after the
-    /// rules that are not used up. The errors, in order of precedence: `BadRule`, `UnknownInterface`, `TooManyRules` if 64 rules
-    /// are not used up, `NoMemory`. `NoMemory` can also mean that 64 MiB of lines are waiting to be taken. An error changes
-    /// nothing.
+    /// Adds the rule in `text`, for interfaces with these names. The rule applies from the next attempt on, after the rules that
+    /// are not yet used up. The errors, in order of precedence: `BadRule`, `UnknownInterface`, `TooManyRules` if 64 rules are not
+    /// yet used up, `NoMemory`. `NoMemory` can also mean that 64 MiB of lines are waiting to be taken. An error changes nothing.
     pub fn inject(&mut self, text: &[u8], names: &Names) -> Result<(), RuleRefusal>
         ensures injected { Injected names.now text.now self.old.plan result self.new.plan }
         ensures takes { TakesRule text.now self.old result self.new }
@@ -315,7 +314,7 @@ impl<N: BusName, F: FaultSource + Drop, B: Journaled> StationState<N, F, B> {
         self.changes.give(&mut self.plan, rule, attempt, text)
     }
 
-    /// Returns the number of rules that are not used up.
+    /// Returns the number of rules that are not yet used up.
     pub fn rules(&self) -> usize
         ensures rules { result ≡ length self.now.plan.rules }
         ensures few { result ≤ 64 }
@@ -341,8 +340,8 @@ impl<N: BusName, F: FaultSource + Drop, B: Journaled> StationState<N, F, B> {
         self.changes.keep_none();
     }
 
-    /// Takes out the lines about the rules since the start or the last call of this method. Returns `AllocError` if an allocation
-    /// fails; the lines are then kept.
+    /// Removes and returns the lines about the rules since the start or the last call of this method. Returns `AllocError` if an
+    /// allocation fails; the lines are then kept.
     pub fn take_changes(&mut self) -> Result<Vec<u8>, AllocError>
         ensures taken { IfOk result (λ lines. lines.items ≡ text_of_lines self.old.changes) }
         ensures after { OnOk result (self.new
@@ -363,7 +362,7 @@ impl<N: BusName, F: FaultSource + Drop, B: Journaled> StationState<N, F, B> {
         (self.bus.socket_stats(socket), self.bus.iface_stats(iface))
     }
 
-    /// Returns the number of items that wait on this socket, or 0 if the socket is not open.
+    /// Returns the number of items that are queued on this socket, or 0 if the socket is not open.
     pub(crate) fn waiting(&self, socket: SocketId) -> u64
         ensures { result ≡ items_waiting_at self.now.journal socket.0 }
     {
@@ -373,7 +372,7 @@ impl<N: BusName, F: FaultSource + Drop, B: Journaled> StationState<N, F, B> {
         }
     }
 
-    /// Returns why a wait for an item of this socket ends, or `None` if it continues. If it continues, the thread is noted as
+    /// Returns why a wait for an item from this socket ends, or `None` if it continues. If it continues, the thread is recorded as
     /// waiting.
     pub(crate) fn frame_wake_or_sleep(&mut self, socket: SocketId) -> Option<WakeReason>
         ensures wake { result ≡ frame_wake self.old socket.0 }
@@ -386,7 +385,7 @@ impl<N: BusName, F: FaultSource + Drop, B: Journaled> StationState<N, F, B> {
         wake
     }
 
-    /// Returns the queues in which a wait for an item may be over. These queues are then noted as having no waiting threads.
+    /// Returns the queues in which a wait for an item may be finished. These queues are then recorded as having no waiting threads.
     pub(crate) fn take_woken(&mut self) -> QueueSet
         ensures { self.new ≡ self.old }
     {
@@ -410,7 +409,7 @@ impl<N: BusName, F: FaultSource + Drop, B: Journaled> StationState<N, F, B> {
         woken
     }
 
-    /// Returns why a wait for an item of this socket ends, or `None` if it continues.
+    /// Returns why a wait for an item from this socket ends, or `None` if it continues.
     pub(crate) fn frame_wake(&self, socket: SocketId) -> Option<WakeReason>
         ensures { result ≡ frame_wake self.now socket.0 }
     {
@@ -501,7 +500,7 @@ impl<N: BusName, F: FaultSource + Drop, B: Journaled> StationState<N, F, B> {
         settle_bus(bus, roll, keeper, passes, gauges)
     }
 
-    /// Like `settle`, but also takes the scroll back. The scroll has the entries that the bus handed out, which are the first
+    /// Like `settle`, but also takes the scroll back. The scroll contains the entries that the bus handed out, which are the first
     /// entries of its history. Also returns `WrongStation` exactly if the scroll belongs to another station.
     pub fn settle_scroll(
         self,
@@ -575,7 +574,7 @@ fn next_verdict<B: Journaled>(plan: &mut Plan, bus: &B, attempt: u64, source: Ve
     }
 }
 
-/// Carries out an event for the pass of a slip. The bus must have room for an entry. The event is noted in the roll, and changes of
+/// Carries out an event for the pass of a slip. The bus must have room for an entry. The event is added to the roll, and changes of
 /// the error counters are published.
 fn answer_and_book<N: BusName, B: Journaled>(
     alloc: Global,
@@ -608,7 +607,7 @@ fn answer_and_book<N: BusName, B: Journaled>(
     reply
 }
 
-/// Notes a call of a slip's pass in the roll if the call left an entry.
+/// Adds a call of a slip's pass to the roll if the call added an entry to the record.
 #[inline(always)]
 fn book<N: RollName>(roll: &mut Roll<N>, slip: &mut Slip<N>, event: &Event, reply: &Reply)
     requires { slip.old.number ≡ roll.old.number }

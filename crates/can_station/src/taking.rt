@@ -14,10 +14,11 @@ use can_bus::Journaled;
 use can_fault::FaultSource;
 use can_roll::Scroll;
 
-/// The number of free places in the tail for which a call waits. While a server holds the lock, it makes fewer entries.
+/// A call waits until the tail has room for this many entries, or until half of a smaller tail is free. A server adds fewer entries
+/// while it holds the lock.
 const HOLD_PLACES: usize = 512;
 
-/// What a station knows about the threads that take entries.
+/// What a station stores about the threads that take entries.
 #[derive(Drop)]
 pub(crate) struct Taking {
     /// The number of entries taken so far.
@@ -29,7 +30,7 @@ pub(crate) struct Taking {
 }
 
 impl Taking {
-    /// Returns the initial value: no entries are taken and no thread waits.
+    /// Returns the initial value: no entries have been taken and no thread waits.
     pub(crate) fn none() -> Taking {
         Taking {
             taken: 0,
@@ -38,7 +39,7 @@ impl Taking {
         }
     }
 
-    /// Notes that a thread is about to wait for this many entries.
+    /// Notes that a thread is about to wait for `many` entries.
     fn want(&mut self, many: u64) {
         self.wanted = Some(match self.wanted {
             None => many,
@@ -47,15 +48,15 @@ impl Taking {
     }
 }
 
-// The methods that concern free places in the tail and the threads that take entries. Contracts see none of this.
+// The methods for the room in the tail and for the threads that take entries. Contracts describe neither.
 impl<N: BusName, F: FaultSource + Drop, B: Journaled> StationState<N, F, B> {
-    /// Returns the number of entries that were not yet taken.
+    /// Returns the number of entries that have not yet been taken.
     fn held_back(&self) -> u64 {
         self.bus.len().saturating_sub(self.taking.taken)
     }
 
-    /// Returns whether calls have to wait for room. They wait if fewer than 512 places are free and more entries wait to be taken
-    /// than places are free. After `end_entries` they never wait.
+    /// Returns whether calls have to wait for room. They wait if the tail has room for fewer than 512 entries and more entries wait
+    /// to be taken than there is room for. After `end_entries` they never wait.
     pub(crate) fn is_short(&self) -> bool {
         let places = self.bus.places();
         places < HOLD_PLACES && (places as u64) < self.held_back() && !self.taking.is_over
@@ -72,7 +73,7 @@ impl<N: BusName, F: FaultSource + Drop, B: Journaled> StationState<N, F, B> {
         }
     }
 
-    /// Returns whether a thread has to keep waiting for this many entries. If so, the thread is noted as waiting.
+    /// Returns whether a thread has to keep waiting for `many` entries. If so, the thread is recorded as waiting.
     pub(crate) fn waits_for(&mut self, many: u64) -> bool
         ensures { self.new ≡ self.old }
     {
@@ -83,7 +84,7 @@ impl<N: BusName, F: FaultSource + Drop, B: Journaled> StationState<N, F, B> {
         waits
     }
 
-    /// Returns whether to wake the threads that wait for entries. If so, no thread is noted as waiting from then on.
+    /// Returns whether to wake the threads that wait for entries. If so, no thread is recorded as waiting afterwards.
     pub(crate) fn take_awaited(&mut self) -> bool
         ensures { self.new ≡ self.old }
     {
@@ -109,8 +110,8 @@ impl<N: BusName, F: FaultSource + Drop, B: Journaled> StationState<N, F, B> {
         self.taking.is_over = true;
     }
 
-    /// Hands out all entries that were not yet handed out to the holder of the scroll, in order, in an empty block. The block also
-    /// gets the lines about the rules, unless an allocation fails.
+    /// Moves all entries that were not yet handed out into an empty block, in order, and adds them to the scroll. The block also
+    /// receives the lines about the rules, unless an allocation fails.
     pub(crate) fn take_entries(&mut self, scroll: &mut Scroll<N>, block: &mut Block)
         requires own { scroll.old.number ≡ self.old.number }
         requires empty { block.old.entries.entries ≡ [] }

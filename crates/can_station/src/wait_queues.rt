@@ -46,14 +46,14 @@ impl WaitQueues {
     }
 }
 
-/// Returns the place of a socket's queue in the array.
+/// Returns the index of a socket's queue in the array.
 fn place_of(socket: SocketId) -> usize
     ensures { result < 64 }
 {
     socket.0 as usize % QUEUES
 }
 
-/// A set of queues. Bit 0 is the first queue.
+/// A set of queues. Bit 0 represents the first queue.
 #[derive(Debug, Clone, Copy, PartialEq, Eq)]
 pub(crate) struct QueueSet(u64);
 
@@ -79,9 +79,9 @@ impl QueueSet {
 #[derive(Debug, Clone, Copy, PartialEq, Eq)]
 pub(crate) enum Waiter {
     Nobody,
-    /// Threads that wait for items of this socket.
+    /// Threads that wait for items from this socket.
     One(SocketId),
-    /// Threads that wait for items of several sockets.
+    /// Threads that wait for items from several sockets.
     Several,
 }
 
@@ -105,7 +105,7 @@ impl Waiters {
         self.queues[place]
     }
 
-    /// Notes that a thread is about to wait for an item of this socket.
+    /// Notes that a thread is about to wait for an item from this socket.
     pub(crate) fn add(&mut self, socket: SocketId) {
         let place = place_of(socket);
         let one = Waiter::One(socket);

@@ -47,7 +47,7 @@ pub(crate) struct Wakeups {
 }
 
 impl Wakeups {
-    /// Returns a value without changes.
+    /// Returns a value that contains no changes.
     pub(crate) fn none() -> Wakeups {
         Wakeups {
             has_work: false,
@@ -71,7 +71,7 @@ impl Wakeups {
         }
     }
 
-    /// Adds a send with its outcome.
+    /// Adds the changes that a send with this outcome may have made.
     pub(crate) fn add_send(&mut self, outcome: Result<u64, Refusal>) {
         match outcome {
             Ok(_) => self.has_work = true,
@@ -201,7 +201,8 @@ impl<N: BusName, F: FaultSource + Drop, G: Gate + Drop, B: Journaled> Station<N,
         }
     }
 
-    /// Returns true if a call was refused because the record is full, but only the first time that it is asked. It never waits.
+    /// Returns true if a call was refused because the record is full, but only the first time that this method is called after the
+    /// refusal. It never waits.
     pub fn became_full(&self) -> bool {
         self.fullness
             .compare_exchange(FULL, REPORTED, SeqCst, SeqCst)

@@ -4,7 +4,7 @@ use Rattle.can_station.specs.Passes.{IsStateOf, PassSeen, new_light_pass}
 use Rattle.can_roll.specs.Seen.{SlipSeen}
 use Rattle.can_station.proofs.station.Station.enter_light.Goals as goal
 
--- A claim that always holds also holds for each possible error.
+-- A claim that always holds also holds for every possible error.
 on_err : {A E P : Type 0} (r : Result A E) → P → OnErr r P
 on_err (Ok a) p = tt
 on_err (Err e) p = p
