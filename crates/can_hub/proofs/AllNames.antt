@@ -21,6 +21,6 @@ one_bus_more buses n bus old text more lt at before is =
     ∙ ap (λ (b : BusSeen). old ++ (spaced (all_names (take n buses)) ++ spaced b.names)) at
     ∙ ap (λ (t : List ℕ). old ++ t) (sym (spaced-more buses n bus lt))
 
--- The text has the names of all buses after the last bus is added.
+-- The string contains the names of all buses after the last bus is added.
 pub all_buses : (buses : List BusSeen) (n : ℕ) (old text : List ℕ) → length buses ≤ n → text ≡ old ++ spaced (all_names (take n buses)) → text ≡ old ++ spaced (all_names buses)
 all_buses buses n old text le h = h ∙ ap (λ (bs : List BusSeen). old ++ spaced (all_names bs)) (take_all n buses le)

@@ -49,7 +49,7 @@ use Rattle.can_hub.specs.contracts.pass_port.PassPort.TheInside as port_inside
 use Rattle.can_hub.specs.contracts.pass_port.EnteredStation as entered
 use Rattle.can_hub.specs.contracts.pass_port.EnteredStation.TheInside as entered_inside
 
--- Threads may share or move a field that is a reference if they may share its target.
+-- Threads may share or move a field that is a reference if they may share the target of the reference.
 pub shared : (κ : NamedLft) (R : RattleType) (one : One R.mir) → IsSync R → IsSync (as_row (shr_ref_field κ R one))
 shared κ R one r = as_row_sync (shr_ref_field κ R one) (shr_sync κ.mir κ.lft R r)
 

@@ -32,7 +32,7 @@ configured_push left (x ∷ xs) (y ∷ ys) bus s h one = (h.0, configured_push l
 pub settle_none : (A : Type 0) {L : Type 0} (left : L → Journal) (done : List (Settled L)) → done ≡ [] → AllSettleIn {A = A} left [] done
 settle_none A {L} left done none = subst (λ (d : List (Settled L)). AllSettleIn {A = A} left [] d) (sym none) tt
 
--- One more scroll is added, to which no entry was handed out.
+-- One more scroll is added, which no entry was handed to.
 pub new_push : (n m : ℕ) (before : List ScrollSeen) (scroll : ScrollSeen) → AreNewScrolls n before → n + length before ≡ m → scroll ≡ scroll_seen m [] → AreNewScrolls n (before ++ scroll ∷ [])
 new_push n m [] scroll h at is = let same : m ≡ n = omega (arith, at) in (is ∙ ap (λ (k : ℕ). scroll_seen k []) same, tt)
 new_push n m (x ∷ xs) scroll h at is = (h.0, new_push (suc n) m xs scroll h.1 (omega (arith, at)) is)

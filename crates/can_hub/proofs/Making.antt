@@ -23,7 +23,7 @@ module _ {F G : Type 0} where
   pub names_parted : (bs : List (Bench F G)) (b : Bench F G) → 1 ≤ length bs → b ≡ get_or bs 0 b → bench_names bs ≡ b.names ∷ bench_names (take (length bs - 1) (drop 1 bs))
   names_parted bs b some is = ap bench_names (parted bs b some is)
 
-  -- The buses at each turn of the loop: those made so far, followed by those to be made from the remaining benches.
+  -- The buses in each iteration of the loop: the buses made so far, followed by the buses to be made from the remaining benches.
   pub made_first : (made : List BusSeen) (rest bs : List (Bench F G)) → made ≡ [] → rest ≡ bs → made ++ buses_from (length made) rest ≡ buses_from 0 bs
   made_first made rest bs none same = ap (λ (m : List BusSeen). m ++ buses_from (length m) rest) none ∙ ap (buses_from 0) same
 

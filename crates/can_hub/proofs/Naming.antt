@@ -4,9 +4,9 @@ use Rattle.can_roll.specs.Rule.{RollId, no_roll}
 use Rattle.can_hub.specs.Benches.{NamedFrom}
 use Rattle.can_hub.specs.declared.bench.Bench.{Bench}
 
--- A hub whose names are those of its own benches' tables.
+-- A hub can be named after the tables of its own benches.
 
--- The name for a bench that does not exist.
+-- The table name for a bench that does not exist.
 abbrev pub no_table : TableId
 no_table = record { words = 0; slots = 0; views_name = 0; atom = 0; block = 0; offset = 0; slot_names = [] }
 
@@ -23,7 +23,7 @@ module _ {F G : Type 0} where
   meter_at (b ∷ more) zero = b.blanks.meter
   meter_at (b ∷ more) (suc k) = meter_at more k
 
-  -- The names hold for benches n onwards if they hold for the shorter list of those benches.
+  -- If the names match for the benches from bench n onwards, they match when those benches are counted from 0.
   named_from : (roll : ℕ → RollId) (meter : ℕ → TableId) (n : ℕ) (bs : List (Bench F G)) → ((k : ℕ) → roll (n + k) ≡ roll_at bs k) → ((k : ℕ) → meter (n + k) ≡ meter_at bs k) → NamedFrom roll meter n bs
   named_from roll meter n [] rolls meters = tt
   named_from roll meter n (b ∷ more) rolls meters =

@@ -94,7 +94,7 @@ on_pass F old buses inside now pass e room outcome answer seen is has told calle
     subst (λ (o : PortSeen). Steps (PassStep F) o e answer after) (ap (λ (i : Option EnteredSeen). record { buses = buses; entered = i }) (sym is) ∙ seen)
     (subst (λ (a : Result Reply PortRefusal). Steps (PassStep F) (over buses now) e a after) (sym told) stepped)
 
--- A send of the entered station is a call of the port.
+-- A send on the entered station is a call on the port.
 pub sent : (F : Type 0) (old : PortSeen) (buses : List BusSeen) (inside : Option EnteredSeen) (now : EnteredSeen) (pass : PassSeen) (socket : SocketId) (frame : CanFrame) (outcome : Result ℕ StationRefusal) (answer : Result ℕ PortRefusal)
     → ◌≡◌ {A = PortSeen} (record { buses = buses; entered = inside }) old → inside ≡ Some now → answer ≡ reply_of_station outcome
     → Called reply.Sent now.station.number now.pass (event.Send socket frame) outcome pass

@@ -21,7 +21,7 @@ numbered_from n (b ∷ more) (suc k) d h lt =
 pub number_at : (buses : List BusSeen) (k : ℕ) (d : BusSeen) → NumberedFrom 0 buses → k < length buses → (slice_index_or buses k d).number ≡ k
 number_at buses k d h lt = let at = numbered_from 0 buses k d h lt in omega (arith, at)
 
--- An existing element does not depend on the default.
+-- The element at an index within the list does not depend on the default element.
 index_default : {X : Type 0} (xs : List X) (k : ℕ) (d e : X) → k < length xs → slice_index_or xs k d ≡ slice_index_or xs k e
 index_default [] k d e lt = absurd (omega (arith, lt))
 index_default (x ∷ xs) zero d e lt = refl

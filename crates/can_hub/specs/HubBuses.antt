@@ -11,7 +11,7 @@ use Rattle.can_hub.specs.declared.hub_bus.AnyEnd.TheVariants as end
 
 -- The buses of a hub, which either keep their whole records or are for long runs (own choice).
 
--- The configuration is valid for a hub's bus for long runs: its limit is higher than that of any whole record.
+-- The configuration is valid for a hub's bus for long runs: its limit of entries is higher than the limit of any whole record.
 abbrev pub IsOfLongRuns : BusConfig → Type 0
 IsOfLongRuns c = (max_limit < c.limit) × IsLongConfig c
 
@@ -20,8 +20,8 @@ abbrev pub journal_in : AnyBus → Journal
 journal_in (bus.Whole b) = b
 journal_in (bus.Long b) = journal_of b
 
--- The number of entries that a bus can still take before some must be handed out. For a bus that keeps its whole record
--- it is the largest usize.
+-- The number of entries that a bus has room for before some must be handed out. For a bus that keeps its whole record, this is the
+-- largest usize.
 abbrev pub places_in : AnyBus → ℕ
 places_in (bus.Whole b) = 18446744073709551615
 places_in (bus.Long b) = places_left b
@@ -36,7 +36,7 @@ abbrev pub HasItsLength : AnyBus → Type 0
 HasItsLength (bus.Whole b) = IsConfig b.config
 HasItsLength (bus.Long b) = IsOfLongRuns b.config
 
--- The journal that a bus left at its end, as callers see it.
+-- The journal that remains of a bus at its end, as callers see it.
 abbrev pub left_in : AnyEnd → Journal
 left_in (end.Whole r) = record { config = r.config; history = r.history }
 left_in (end.Long e) = journal_of e
@@ -46,7 +46,7 @@ abbrev pub handed_by : AnyEnd → List Entry
 handed_by (end.Whole r) = []
 handed_by (end.Long e) = handed_entries e
 
--- The configuration that a bus left at its end is valid for its kind of bus.
+-- The configuration that remains of a bus at its end is valid for its kind of bus.
 abbrev pub EndsAtItsLength : AnyEnd → Type 0
 EndsAtItsLength (end.Whole r) = IsConfig r.config
 EndsAtItsLength (end.Long e) = IsOfLongRuns e.config

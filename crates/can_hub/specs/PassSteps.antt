@@ -30,7 +30,7 @@ use Rattle.can_proto.specs.Spelling.{no_bus_load}
 use Rattle.can_proto.specs.declared.answer.BusLoad.{BusLoad}
 use Rattle.can_hub.specs.Buses.{BusSeen, IsFirstNamed, IsStationOn, items_on, names_on, rates_on, all_names}
 
--- A pass used as a port. Each call is an event of the station, except look-ups and the calls about rules.
+-- A pass used as a port. Each call is an event of the station, except look-ups and calls about rules.
 
 -- An entered station, its gauge with the publications that the gauge has seen, and the pass.
 pub record EnteredSeen : Type 0 where
@@ -52,8 +52,8 @@ abbrev pub socket_room_in : List BusSeen → Option EnteredSeen → ℕ
 socket_room_in buses None = 0
 socket_room_in buses (Some e) = items_on (slice_get buses e.station.number)
 
--- The event that the station carries out. In an open event, the number of items that a socket holds is replaced by the
--- bus's number.
+-- The event that the station carries out. In an open event, the number of items that a socket holds is replaced with the number set
+-- by the bus.
 abbrev pub with_socket_room : Event → ℕ → Event
 with_socket_room (event.Open iface asked) room = event.Open iface room
 with_socket_room e room = e
@@ -78,7 +78,7 @@ OnPass {A} told (Some old) e answer new =
     × Called told old.station.number old.pass e outcome pass
     × (new ≡ Some (record old { pass = pass }))
 
--- The result of a call on the port. The station carries the call out, and the buses of the hub do not change.
+-- The result of a call on the port. The station carries out the call, and the buses of the hub do not change.
 abbrev pub OnPort : {A : Type 0} → (A → Reply) → PortSeen → Event → Result A PortRefusal → PortSeen → Type 0
 OnPort told old e answer new = OnPass told old.entered e answer new.entered × (new.buses ≡ old.buses)
 
@@ -94,8 +94,8 @@ SomeNamedFull F buses name =
     × IsStationOn buses at
     × HadNoPassLeft F at
 
--- The port enters the station of the bus with this interface name and takes a gauge and a pass. Nothing changes if no
--- bus has the name, if there is no memory for the gauge, or if no pass is left.
+-- The port enters the station of the bus with this interface name and takes a gauge and a pass. Nothing changes if no bus has the
+-- name, if the gauge cannot be allocated, or if no pass is left.
 abbrev pub Attaches : Type 0 → PortSeen → List ℕ → Result ℕ PortRefusal → PortSeen → Type 0
 Attaches F old name (Ok iface) new =
     (at : StationSeen) × (gauge : Readings) × (pass : PassSeen)
@@ -109,8 +109,8 @@ Attaches F old name (Err (port.Bus refusal.NoMemory)) new = SomeNamed old.buses 
 Attaches F old name (Err port.TooManyPasses) new = SomeNamedFull F old.buses name × (new ≡ old)
 Attaches F old name (Err _) new = ⊥
 
--- A gauge returns the newest publication of an interface's error counters that it knows, and it never forgets a
--- publication. For an interface that its meter does not have, it returns counters of 0/0.
+-- A gauge returns the newest publication of an interface's error counters that it has seen, and it never forgets a publication. For
+-- an interface that its meter does not have, it returns counters of 0/0.
 abbrev pub GaugeReports : Readings → ℕ → ErrorCounts → Readings → Type 0
 GaugeReports old iface answer new =
     ((iface < old.ifaces)
@@ -125,8 +125,8 @@ ReportsCounters None iface answer new = (answer ≡ at_start) × (new ≡ None)
 ReportsCounters (Some old) iface answer new =
     (gauge : Readings) × GaugeReports old.gauge iface answer gauge × (new ≡ Some (record old { gauge = gauge }))
 
--- The load has the bit rates of the entered bus, or only zeros if no bus was entered. The definition does not say how
--- busy the bus was.
+-- The load contains the bit rates of the entered bus, or only zeros if no bus was entered. The definition does not say how busy the
+-- bus was.
 abbrev pub ReportsRates : List BusSeen → Option EnteredSeen → BusLoad → Type 0
 ReportsRates buses None answer = answer ≡ no_bus_load
 ReportsRates buses (Some e) answer =
@@ -146,7 +146,7 @@ CountsIface F None iface answer = answer ≡ None
 CountsIface F (Some e) iface answer =
     InSome F e.station (λ held. answer ≡ iface_stats_of held.journal.config held.journal.history iface)
 
--- The reply to a rule in some state of a station whose interfaces have these names; the definition does not say which
+-- The reply to adding a rule, in some state of a station whose interfaces have these names; the definition does not say which
 -- state. Without names the reply is `NoSocket`.
 abbrev pub InjectsNamed :
     Type 0 → StationSeen → Option (List (List ℕ)) → List ℕ → Result (Unit {0}) PortRefusal → Type 0
@@ -156,7 +156,7 @@ InjectsNamed F station (Some names) rule answer =
     × InjectsIn F station names rule outcome
     × (answer ≡ reply_to_rule outcome)
 
--- The reply to a rule in some state of the entered station. If no station was entered, the reply is `NoSocket`.
+-- The reply to adding a rule, in some state of the entered station. If no station was entered, the reply is `NoSocket`.
 abbrev pub Injects : Type 0 → List BusSeen → Option EnteredSeen → List ℕ → Result (Unit {0}) PortRefusal → Type 0
 Injects F buses None rule answer = answer ≡ Err (port.Bus refusal.NoSocket)
 Injects F buses (Some e) rule answer =
@@ -168,7 +168,7 @@ abbrev pub RulesLeft : Type 0 → Option EnteredSeen → ℕ → Type 0
 RulesLeft F None answer = answer ≡ 0
 RulesLeft F (Some e) answer = InSome F e.station (λ held. answer ≡ length held.plan.rules)
 
--- The effect and the answer of a call on a port that uses a pass. The source of the station's verdicts has type F.
+-- The effect and the reply of a call on a port that uses a pass. The source of the station's verdicts has type F.
 abbrev pub PassStep : Type 0 → PortSeen → (call : Call) → CallReply call → PortSeen → Type 0
 PassStep F old Names answer new = (answer ≡ all_names old.buses) × (new ≡ old)
 PassStep F old (Attach name) answer new = Attaches F old name answer new

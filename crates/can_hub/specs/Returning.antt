@@ -14,12 +14,12 @@ abbrev pub AddsOwn : {A : Type 0} → List (Vec PassSeen A) → PassSeen → Lis
 AddsOwn {A} old pass new =
     (d : Vec PassSeen A) → AddsPass (slice_index_or old pass.number d) pass (slice_index_or new pass.number d)
 
--- The last pass is taken out of a list, or no pass is taken and the list does not change.
+-- The last pass is removed from a list, or no pass is removed and the list does not change.
 abbrev pub RemovesPass : {A : Type 0} → Vec PassSeen A → Option PassSeen → Vec PassSeen A → Type 0
 RemovesPass old (Some pass) new = old.items ≡ new.items ++ pass ∷ []
 RemovesPass old None new = new.items ≡ old.items
 
--- The last pass is taken out of the list of this bus, or no pass is taken and the list does not change.
+-- The last pass is removed from the list of this bus, or no pass is removed and the list does not change.
 abbrev pub RemovesOwn : {A : Type 0} → List (Vec PassSeen A) → ℕ → Option PassSeen → List (Vec PassSeen A) → Type 0
 RemovesOwn {A} old bus pass new =
     (d : Vec PassSeen A) → RemovesPass (slice_index_or old bus d) pass (slice_index_or new bus d)

@@ -9,7 +9,7 @@ use Rattle.can_station.specs.Passes.{PassSeen, AllOf, SomeOther, SettlesIn}
 
 -- The end of a hub. Each bus is settled with the list of its passes.
 
--- Each list has only passes of its own bus. The first list belongs to bus n.
+-- Each list contains only passes of its own bus. The first list belongs to bus n.
 abbrev pub AllOwn : {A : Type 0} → ℕ → List (Vec PassSeen A) → Type 0
 AllOwn n [] = Unit {0}
 AllOwn n (own ∷ more) = AllOf n own.items × AllOwn (suc n) more
@@ -29,7 +29,7 @@ AllSettle passes settled = AllSettleIn (λ (r : Kept). record { config = r.confi
 abbrev pub AllConfigured : {L : Type 0} → (L → Journal) → List BusSeen → List (Settled L) → Type 0
 AllConfigured left buses settled = AllZip (λ bus s. (left s.history).config ≡ bus.config) buses settled
 
--- The list of this bus is the first list that has a pass of another station.
+-- The list of this bus is the first list that contains a pass of another station.
 pub record FirstForeign {A : Type 0} (passes : List (Vec PassSeen A)) (bus : ℕ) : Type 0 where
   pub before : List (Vec PassSeen A)
   pub own : Vec PassSeen A
@@ -39,7 +39,7 @@ pub record FirstForeign {A : Type 0} (passes : List (Vec PassSeen A)) (bus : ℕ
   pub earlier : AllOwn 0 before
   pub foreign : SomeOther bus own.items
 
--- Each bus has a new scroll, to which no entry was handed out. The first scroll belongs to bus n.
+-- Each bus has a new scroll, which no entry was handed to. The first scroll belongs to bus n.
 abbrev pub AreNewScrolls : ℕ → List ScrollSeen → Type 0
 AreNewScrolls n [] = Unit {0}
 AreNewScrolls n (scroll ∷ more) = (scroll ≡ scroll_seen n []) × AreNewScrolls (suc n) more
@@ -49,11 +49,11 @@ abbrev pub AllOwnScrolls : ℕ → List ScrollSeen → Type 0
 AllOwnScrolls n [] = Unit {0}
 AllOwnScrolls n (scroll ∷ more) = (scroll.number ≡ n) × AllOwnScrolls (suc n) more
 
--- Each scroll has exactly the entries that its bus handed out.
+-- Each scroll contains exactly the entries that its bus handed out.
 abbrev pub AllHanded : {L : Type 0} → (L → List Entry) → List ScrollSeen → List (Settled L) → Type 0
 AllHanded handed scrolls settled = AllZip (λ scroll s. scroll.entries ≡ handed s.history) scrolls settled
 
--- This bus is the first whose scroll belongs to another station, or whose list has a pass of another station.
+-- This bus is the first whose scroll belongs to another station, or whose list contains a pass of another station.
 pub record FirstForeignScroll {A : Type 0} (passes : List (Vec PassSeen A)) (scrolls : List ScrollSeen)
     (bus : ℕ) : Type 0 where
   pub before : List (Vec PassSeen A)

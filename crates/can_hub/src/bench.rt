@@ -14,22 +14,22 @@ use can_wire::Timing;
 /// The parts from which one bus of a hub is made.
 #[derive(Drop)]
 pub struct Bench<F: FaultSource + Drop, G: Gate + Drop> {
-    /// The names of the bus's interfaces. There has to be one name for each interface of the configuration.
+    /// The names of the bus's interfaces. There must be one name for each interface of the configuration.
     pub names: Names,
-    /// The blanks of the station. They have to be for the same number of interfaces.
+    /// The blanks of the station. They must be for the same number of interfaces.
     pub blanks: Blanks,
     pub config: BusConfig,
-    /// The source of the bus's faults. Its verdict counts for every attempt that it makes faulty.
+    /// The source of the bus's faults. For every attempt that the source makes faulty, its verdict is used.
     pub source: F,
-    /// The planned faults. They count for attempts for which the source has no fault.
+    /// The planned faults. They are used for attempts for which the source has no fault.
     pub plan: Plan,
     /// The gate at which a test can stop a thread.
     pub gate: G,
-    /// The bit rates of the bus, or `None`. With bit rates, the driver makes each attempt when the network is free.
+    /// The bit rates of the bus, or `None`. With bit rates, the driver makes each attempt when the bus is free.
     pub timing: Option<Timing>,
     /// The number of milliseconds that the driver of a bus without bit rates sleeps after each step.
     pub pace_ms: u32,
-    /// The number of items that a socket can hold, from 1 to 65,536.
+    /// The number of items that a socket can hold. It must be between 1 and 65,536.
     pub rx_capacity: u32,
 }
 

@@ -50,7 +50,7 @@ impl<N: BusName, F: FaultSource + Drop, G: Gate + Drop> Model for Network<N, F, 
 }
 
 impl<N: BusName, F: FaultSource + Drop, G: Gate + Drop> Network<N, F, G> {
-    /// Makes the bus of a bench under this number, and the scroll of the bus. `L` is the type that remains of the bus at its end.
+    /// Creates the bus of a bench with this number, and the scroll of the bus. `L` is the type that remains of the bus at its end.
     /// On a long run, memory for `size` entries is allocated. Returns `NoMemory` if an allocation failed.
     fn new<L: Leaves>(
         alloc: Global,
@@ -92,7 +92,7 @@ impl<N: BusName, F: FaultSource + Drop, G: Gate + Drop> Network<N, F, G> {
     }
 }
 
-/// The buses of a hub, each with its own station. A bus is numbered by its place, from 0.
+/// The buses of a hub. Each bus has its own station. The number of a bus is its index, starting at 0.
 #[derive(Drop)]
 pub struct Buses<N: BusName, F: FaultSource + Drop, G: Gate + Drop> {
     pub(crate) networks: Vec<Network<N, F, G>>,
@@ -113,14 +113,14 @@ impl<N: BusName, F: FaultSource + Drop, G: Gate + Drop> Model for Buses<N, F, G>
 
 impl<N: BusName, F: FaultSource + Drop, G: Gate + Drop> Buses<N, F, G> {
     /// Returns the number of the bus that has an interface with this name, and that interface. At most one bus has the name.
-    /// Returns `None` exactly if no bus has it. The search ends at the first bus found.
+    /// Returns `None` exactly if no bus has it. The search stops at the first bus found.
     pub fn find(&self, name: &str) -> Option<(usize, Iface)>
         ensures { IsFirstNamed self.now name.now result }
     {
         self.find_bytes(name.as_bytes())
     }
 
-    /// Does the same as `find` for bytes. Bytes that are not UTF-8 match no name.
+    /// Does the same as `find` for a name given as bytes. Bytes that are not UTF-8 match no name.
     pub fn find_bytes(&self, name: &[u8]) -> Option<(usize, Iface)>
         ensures { IsFirstNamed self.now name.now result }
     {
@@ -132,7 +132,7 @@ impl<N: BusName, F: FaultSource + Drop, G: Gate + Drop> Buses<N, F, G> {
         None
     }
 
-    /// Returns the interface of this bus that has this name.
+    /// Returns the interface of this bus with this name.
     #[tactic(auto, using(crate::proofs::Places::named_at))]
     fn interface(&self, bus: usize, name: &[u8]) -> Option<Iface>
         requires { bus < length self.now }
@@ -189,16 +189,16 @@ impl<N: BusName, F: FaultSource + Drop, G: Gate + Drop> Buses<N, F, G> {
         }
     }
 
-    /// Publishes the time of an attempt on a bus, if there is a bus with this number. The caller does this before any receive can
-    /// return an item of that attempt.
+    /// Publishes the timestamp of an attempt on a bus, if there is a bus with this number. The caller does this before any receive
+    /// can return an item of that attempt.
     pub fn show_end(&self, bus: usize, moment: Moment) {
         if let Some(network) = self.networks.get(bus) {
             network.shown.show_end(moment);
         }
     }
 
-    /// Returns the time of the last published attempt on a bus. Returns `None` if no attempt was published or there is no such bus.
-    /// It takes no lock.
+    /// Returns the timestamp of the last published attempt on a bus. Returns `None` if no attempt was published or there is no such
+    /// bus. It takes no lock.
     pub fn last_end(&self, bus: usize) -> Option<Moment> {
         self.networks.get(bus)?.shown.end()
     }
@@ -210,8 +210,8 @@ impl<N: BusName, F: FaultSource + Drop, G: Gate + Drop> Buses<N, F, G> {
         }
     }
 
-    /// Returns the last published load of a bus, as of this moment, and the bit rates of the bus. The load is zero if none was
-    /// published, the bit rates are 0 if the bus has none, and all values are 0 if there is no such bus. It takes no lock.
+    /// Returns the last published load of a bus, as of the timestamp `moment`, and the bit rates of the bus. The load is zero if
+    /// none was published, the bit rates are 0 if the bus has none, and all values are 0 if there is no such bus. It takes no lock.
     #[tactic(auto, using(crate::proofs::Places::rates_at, crate::proofs::Places::rates_past))]
     pub fn load_at(&self, bus: usize, moment: Moment) -> BusLoad
         ensures { rates_of result.bitrate result.dbitrate ≡ rates_on (slice_get self.now bus) }
@@ -236,7 +236,8 @@ impl<N: BusName, F: FaultSource + Drop, G: Gate + Drop> Buses<N, F, G> {
         }
     }
 
-    /// Appends the names of all interfaces of all buses, in order, each after a space. Returns `AllocError` if an allocation fails.
+    /// Appends the names of all interfaces of all buses, in order, with a space before each name. Returns `AllocError` if an
+    /// allocation fails.
     pub fn put_names(&self, text: &mut Vec<u8>) -> Result<(), AllocError>
         ensures { OnOk result (text.new.items ≡ text.old.items ++ spaced (all_names self.now)) }
     {
@@ -270,7 +271,7 @@ impl<N: BusName, F: FaultSource + Drop, G: Gate + Drop> Buses<N, F, G> {
     }
 }
 
-/// Makes the buses of these benches, numbered from 0, and the scrolls of the buses.
+/// Creates the buses of these benches, numbered from 0, and the scrolls of the buses.
 pub(crate) fn networks_of<N: BusName, F: FaultSource + Drop, G: Gate + Drop, L: Leaves>(
     alloc: Global,
     benches: Vec<Bench<F, G>>,

@@ -64,7 +64,7 @@ impl<N: BusName, F: FaultSource + Drop, G: Gate + Drop> Hub<N, F, G> {
 }
 
 impl<N: BusName, F: FaultSource + Drop, G: Gate + Drop> Hub<N, F, G, LongEnd> {
-    /// Makes a hub with buses for long runs, and the scroll of each bus. Each bus keeps only the entries that were not yet taken.
+    /// Creates a hub with buses for long runs, and the scroll of each bus. Each bus keeps only the entries that were not yet taken.
     /// Memory for `size` entries of each bus is allocated here; `size` is `TAIL_SIZE` except in tests.
     ///
     /// Returns `BadConfig` in the same cases as `new`, but with the limits of a long run. A limit of entries that is small enough
@@ -85,8 +85,8 @@ impl<N: BusName, F: FaultSource + Drop, G: Gate + Drop> Hub<N, F, G, LongEnd> {
 }
 
 impl<N: BusName, F: FaultSource + Drop, G: Gate + Drop, L: Leaves> Hub<N, F, G, L> {
-    /// Makes a station over a new bus for each bench, and the scroll of each bus. The buses are of either kind. On a long run,
-    /// memory for `size` entries of each bus is allocated.
+    /// Creates a station over a new bus for each bench, and the scroll of each bus. The buses either all keep records or are all
+    /// for long runs. On a long run, memory for `size` entries of each bus is allocated.
     pub fn make(
         alloc: Global,
         benches: Vec<Bench<F, G>>,
@@ -172,8 +172,8 @@ impl<N: BusName, F: FaultSource + Drop, G: Gate + Drop, L: Leaves> Hub<N, F, G, 
         Ok(settled)
     }
 
-    /// Like `settle`, but also takes the scroll of each bus back. A scroll has the entries that its bus handed out, which are the
-    /// first entries of a long run.
+    /// Like `settle`, but also takes the scroll of each bus back. A scroll contains the entries that its bus handed out, which are
+    /// the first entries of a long run.
     ///
     /// Also returns `SettleFault` exactly if a scroll belongs to another station.
     pub fn settle_scrolls<R: Wait>(
@@ -213,7 +213,7 @@ impl<N: BusName, F: FaultSource + Drop, G: Gate + Drop, L: Leaves> Hub<N, F, G, 
     }
 }
 
-/// Returns what remains of a bus as the type for its kind.
+/// Converts what remains of a bus to the type for its kind of bus.
 fn settled_as<L: Leaves>(left: Settled<HubEnd>) -> Settled<L>
     requires { L.limits (left_in left.history).config }
     ensures history { L.journal result.history ≡ left_in left.history }

@@ -14,7 +14,8 @@ use std::marker::Model;
 use std::sync::Wait;
 
 /// A [`PassPort`] that is used for a few calls. Successive sends and receives share one hold of the station's lock. The first of
-/// them takes the lock. The end of the port and any other call except `put_names` and `load` release it.
+/// them takes the lock. The lock is released when the port is dropped, and by any other call except `put_names`, `status` and
+/// `load`.
 #[derive(Drop)]
 pub struct LockedPort<'a, N: BusName, F: FaultSource + Drop, G: Gate + Drop, R: Wait> {
     port: PassPort<'a, N, F, G, R>,
@@ -31,7 +32,7 @@ impl<'a, N: BusName, F: FaultSource + Drop, G: Gate + Drop, R: Wait> Model
 }
 
 impl<'a, N: BusName, F: FaultSource + Drop, G: Gate + Drop, R: Wait> LockedPort<'a, N, F, G, R> {
-    /// Makes a locked port from this port. It does not hold the lock yet.
+    /// Creates a locked port from this port. It does not hold the lock yet.
     pub fn new(port: PassPort<'a, N, F, G, R>) -> LockedPort<'a, N, F, G, R>
         ensures { result ≡ port.entry }
     {
@@ -48,8 +49,8 @@ impl<'a, N: BusName, F: FaultSource + Drop, G: Gate + Drop, R: Wait> LockedPort<
     }
 }
 
-/// Returns the hold of this station's lock. If the lock of another station is held, or none, that hold is dropped and the lock of
-/// this station is taken.
+/// Returns the hold of this station's lock. If there is no hold, or only a hold of another station's lock, that hold is dropped and
+/// this station's lock is taken.
 fn hold_of<'h, 'a, N: BusName, F: FaultSource + Drop, G: Gate + Drop, R: Wait>(
     rt: &R,
     station: &'a Station<N, F, G, HubBus>,
@@ -79,7 +80,7 @@ impl<'a, N: BusName, F: FaultSource + Drop, G: Gate + Drop, R: Wait> Port
         self.port.call(event)
     }
 
-    // Sends and receives are the most frequent calls of a session: they make no event and no reply.
+    // Sends and receives are the most frequent calls of a session, so they create no event and no reply.
     fn send(&mut self, socket: SocketId, frame: Frame) -> Result<u64, PortRefusal> {
         let port = &mut self.port;
         let Some(entered) = &mut port.entered else {

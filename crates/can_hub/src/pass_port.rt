@@ -51,7 +51,7 @@ pub struct PassPort<'a, N: BusName, F: FaultSource + Drop, G: Gate + Drop, R: Wa
     pub(crate) rt: &'a R,
     pub(crate) alloc: Global,
     buses: &'a Buses<N, F, G>,
-    /// Passes that were handed back and may be used again, or `None`.
+    /// Passes that were handed back and can be used again, or `None`.
     spares: Option<&'a Mutex<ReturnedPasses<N>>>,
     pub(crate) entered: Option<EnteredStation<'a, N, F, G>>,
     pub(crate) tally: Tally,
@@ -113,7 +113,7 @@ impl<'a, N: BusName, F: FaultSource + Drop, G: Gate + Drop, R: Wait> PassPort<'a
         }
     }
 
-    /// Returns a pass of a station: a returned pass if there is one, or else the next pass of the station.
+    /// Returns a pass of a station: a returned pass if there is one, otherwise the next pass of the station.
     fn enter(&self, station: &Station<N, F, G, HubBus>) -> Result<Pass<N>, TooManyPasses>
         ensures ok { IfOk result (λ pass. pass.number ≡ station.now.number) }
         ensures err { OnErr result (HadNoPassLeft F station.now) }
@@ -136,16 +136,16 @@ impl<'a, N: BusName, F: FaultSource + Drop, G: Gate + Drop, R: Wait> PassPort<'a
         self.tally
     }
 
-    /// Returns the interface that a call restarted most recently since the last call of this method, or `None`. An interface that
-    /// was taken down afterwards does not count.
+    /// Returns the interface that a call restarted most recently since the last call of this method. Returns `None` if there was no
+    /// restart, or if that interface was taken down afterwards.
     pub fn take_restarted(&mut self) -> Option<Iface>
         ensures { self.new ≡ self.old }
     {
         self.tally.take_restarted()
     }
 
-    /// Returns the interface that a call took down most recently since the last call of this method, or `None`. An interface that
-    /// was restarted afterwards does not count.
+    /// Returns the interface that a call took down most recently since the last call of this method. Returns `None` if no interface
+    /// was taken down, or if that interface was restarted afterwards.
     pub fn take_downed(&mut self) -> Option<Iface>
         ensures { self.new ≡ self.old }
     {
@@ -164,8 +164,8 @@ impl<'a, N: BusName, F: FaultSource + Drop, G: Gate + Drop, R: Wait> PassPort<'a
     }
 }
 
-/// Returns the event that the pass makes. In an open, the number of items that the socket can hold is replaced with the number that
-/// the bus sets.
+/// Returns the event that the station carries out for the pass. In an open event, the number of items that the socket can hold is
+/// replaced with `room`, the number set by the bus.
 fn sized(event: Event, room: u32) -> Event
     ensures { result ≡ with_socket_room event room }
 {

@@ -8,7 +8,7 @@ use std::marker::Model;
 /// The largest number of buses that a hub can have.
 const MOST_BUSES: usize = 16;
 
-/// The passes that sessions and drivers handed back, in a separate list for each bus. To a contract this value is these lists.
+/// The passes that sessions and drivers handed back, in a separate list for each bus. In contracts, this value is these lists.
 #[derive(Drop)]
 pub struct ReturnedPasses<N: BusName> {
     lists: Vec<Vec<Pass<N>>>,
@@ -27,7 +27,7 @@ impl<N: BusName> Model for ReturnedPasses<N> {
 }
 
 impl<N: BusName> ReturnedPasses<N> {
-    /// Returns empty lists. For each of the first `buses` buses there is space for `room` passes.
+    /// Returns empty lists. Each of the first `buses` lists has room for `room` passes.
     pub fn new(alloc: Global, buses: usize, room: usize) -> Result<ReturnedPasses<N>, AllocError>
         ensures { IfOk result (λ returned. AllEmpty returned) }
     {

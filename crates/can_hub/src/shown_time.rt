@@ -1,4 +1,4 @@
-//! Publishes the times on the wire of a bus, from its driver to the sessions.
+//! Publishes timestamps and the load of a bus, from its driver to the sessions.
 ghost use Rattle.std.specs.Prelude.{◌≡◌};
 ghost use Rattle.can_hub.specs.Buses.{bit_rates};
 ghost use Rattle.can_wire.specs.Times.{rates_of};
@@ -8,11 +8,11 @@ use can_proto::BusLoad;
 use can_wire::{Load, RecentLoad, Timing};
 use std::sync::atomic::{AtomicU64, Ordering};
 
-/// The time of the last attempt on a bus with bit rates, and the load of the bus. Threads read these values without a lock. The
-/// words are written one after another, so one word may be newer than the others by one attempt. No contract mentions them.
+/// The timestamp of the last attempt on a bus with bit rates, and the load of the bus. Threads read these values without a lock.
+/// The words are written one after another, so one word may be newer than the others by one attempt. No contract mentions them.
 #[derive(Drop)]
 pub(crate) struct ShownTime {
-    /// The time of the last attempt in microseconds, or 0 before the first attempt.
+    /// The timestamp of the last attempt in microseconds, or 0 before the first attempt.
     end: AtomicU64,
     /// The load over the last few seconds, encoded as the word of a `RecentLoad`.
     recent: AtomicU64,
@@ -30,12 +30,12 @@ impl ShownTime {
         }
     }
 
-    /// Publishes the time of an attempt.
+    /// Publishes the timestamp of an attempt.
     pub(crate) fn show_end(&self, moment: Moment) {
         self.end.store(moment.micros(), Ordering::SeqCst);
     }
 
-    /// Returns the time of the last published attempt, or `None` if there is none.
+    /// Returns the timestamp of the last published attempt, or `None` if there is none.
     pub(crate) fn end(&self) -> Option<Moment> {
         match self.end.load(Ordering::SeqCst) {
             0 => None,
@@ -49,7 +49,7 @@ impl ShownTime {
         self.busy.store(load.busy_micros(), Ordering::SeqCst);
     }
 
-    /// Returns the last published load of a bus, as of this moment. `timing` gives the bit rates of the bus.
+    /// Returns the last published load of a bus, as of the timestamp `moment`. `timing` contains the bit rates of the bus.
     pub(crate) fn load_at(&self, moment: Moment, timing: Option<Timing>) -> BusLoad
         ensures { rates_of result.bitrate result.dbitrate ≡ bit_rates timing }
     {

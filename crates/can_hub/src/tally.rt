@@ -2,10 +2,10 @@ use can_bus::{Event, Reply};
 use can_frame::Iface;
 use can_station::StationRefusal;
 
-/// Counts of a session's calls for the program that runs the session. No contract mentions them.
+/// Counts of a session's calls, for the program that runs the session. No contract mentions them.
 #[derive(Debug, Clone, Copy)]
 pub struct Tally {
-    /// The number of frames whose send was refused, if the refusal is in the record.
+    /// How many sends were refused with a refusal that is in the record.
     pub refused: u64,
     /// The number of items dropped at the sockets of the session. A socket's items are counted when it is closed.
     pub dropped: u64,
@@ -13,7 +13,7 @@ pub struct Tally {
     downed: Option<Iface>,
 }
 
-/// What a tally needs to know about a call.
+/// The properties of a call that a tally counts.
 #[derive(Clone, Copy)]
 pub(crate) struct Counted {
     is_send: bool,
@@ -22,7 +22,7 @@ pub(crate) struct Counted {
 }
 
 impl Counted {
-    /// Returns what a tally needs to know about the call that makes this event.
+    /// Returns the properties that a tally counts, for the call with this event.
     pub(crate) fn of(event: &Event) -> Counted {
         Counted {
             is_send: matches!(event, Event::Send(_, _)),
@@ -39,7 +39,7 @@ impl Counted {
 }
 
 impl Tally {
-    /// Returns a tally of no calls.
+    /// Returns a tally that has counted no calls.
     pub fn none() -> Tally {
         Tally {
             refused: 0,
@@ -49,7 +49,7 @@ impl Tally {
         }
     }
 
-    /// Counts a call and its outcome. A call that left no entry is not counted.
+    /// Counts a call and its outcome. A call that added no entry to the record is not counted.
     pub(crate) fn add(&mut self, call: Counted, outcome: &Result<Reply, StationRefusal>) {
         let Ok(reply) = outcome else {
             return;
@@ -71,7 +71,7 @@ impl Tally {
         }
     }
 
-    /// Adds a send with its outcome.
+    /// Counts a send and its outcome. Only a refusal that is in the record changes the tally.
     pub(crate) fn add_send(&mut self, outcome: &Result<u64, StationRefusal>) {
         match outcome {
             Err(StationRefusal::Bus(why)) if why.leaves_entry() => {
@@ -81,20 +81,20 @@ impl Tally {
         }
     }
 
-    /// Returns the interface that was restarted most recently since the last call of this method, or `None`. An interface that was
-    /// taken down afterwards does not count.
+    /// Returns the interface that was restarted most recently since the last call of this method. Returns `None` if there was no
+    /// restart, or if that interface was taken down afterwards.
     pub fn take_restarted(&mut self) -> Option<Iface> {
         self.restarted.take()
     }
 
-    /// Returns the interface that was taken down most recently since the last call of this method, or `None`. An interface that was
-    /// restarted afterwards does not count.
+    /// Returns the interface that was taken down most recently since the last call of this method. Returns `None` if no interface
+    /// was taken down, or if that interface was restarted afterwards.
     pub fn take_downed(&mut self) -> Option<Iface> {
         self.downed.take()
     }
 }
 
-/// Notes the interface of a call, if it has one, and removes the opposite note if it names the same interface.
+/// Stores the interface of a call in `noted`, if the call has an interface. Clears `opposite` if it stores the same interface.
 fn note(noted: &mut Option<Iface>, opposite: &mut Option<Iface>, iface: Option<Iface>) {
     if iface.is_some() {
         *noted = iface;

@@ -5,7 +5,7 @@ pub enum Point {
     BeforeStep,
     /// During each step, while the lock is held.
     InStep,
-    /// After a pass's call that takes the lock itself, when the lock is free again.
+    /// After a pass has made a call that takes the lock itself, when the lock is free again.
     AfterReply,
 }
 
