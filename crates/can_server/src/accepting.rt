@@ -24,7 +24,7 @@ const TRIES: u32 = 64;
 /// How often a new connection checks for a free slot while idle clients disconnect. This takes about one second.
 const TURNS: u32 = 1_000;
 
-/// The visit of an admitted client: its acceptor, its slot in the list of clients, and the number of its session.
+/// The data of an admitted client: its acceptor, its slot in the list of clients, and the number of its session.
 #[derive(Drop)]
 pub struct Visit<'d> {
     pub acceptor: &'d Acceptor,

@@ -1,7 +1,7 @@
 use can_frame::Iface;
 use std::net::SocketAddr;
 
-/// A report of a running server to its host. The sessions of each acceptor are numbered from 1.
+/// A report from a running server to its host. The sessions of each acceptor are numbered from 1.
 #[derive(Debug, Clone, Copy)]
 pub enum Notice {
     /// A session began. The client has this address, or it connected to a Unix path.

@@ -168,7 +168,7 @@ impl<'a, N: BusName, F: FaultSource + Drop, G: Gate + Drop, C: Clock, R: Wait + 
         }
     }
 
-    /// Reports to the host if the session's connection began in a way that no client uses.
+    /// Reports to the host that the session's connection began in a way that no client uses, if it did.
     fn report_stranger(&self, talk: &Mutex<Conversation<'_, N, F, G, R>>, session: u32) {
         let is_strangers = talk.lock(self.rt).is_strangers();
         if is_strangers {
@@ -176,7 +176,7 @@ impl<'a, N: BusName, F: FaultSource + Drop, G: Gate + Drop, C: Clock, R: Wait + 
         }
     }
 
-    /// Reports to the host if a session restarted an interface.
+    /// Reports to the host that a session restarted an interface, if it did.
     fn report_restart(&self, station: &Station<N, F, G, HubBus>, restarted: Option<Iface>) {
         if let Some(iface) = restarted {
             let bus = usize::from(station.number());
@@ -184,7 +184,7 @@ impl<'a, N: BusName, F: FaultSource + Drop, G: Gate + Drop, C: Clock, R: Wait + 
         }
     }
 
-    /// Reports to the host if a session took an interface down.
+    /// Reports to the host that a session took an interface down, if it did.
     fn report_down(&self, station: &Station<N, F, G, HubBus>, downed: Option<Iface>) {
         if let Some(iface) = downed {
             let bus = usize::from(station.number());

@@ -42,7 +42,7 @@ clear-more b inside begins ends clear = by (b == 60) (b == 62) (has_mark inside)
     by : (x y z : Bool) → x ≡ false → y ≡ false → z ≡ false → ((x || y) || z) ≡ false
     by x y z h k l = rw (h, k, l) refl
 
--- the bytes after a `<` continue a message
+-- a `<` and bytes that continue its message are in order
 
 opened : (b : ℕ) (bs : List ℕ) (begun : Bool) → b ≡ 60 → GoesOn bs begun → AreMessagesInOrder (b ∷ bs) begun
 opened b bs begun is (inside, clear, inl (same, begins)) = record {

@@ -12,8 +12,7 @@ abbrev pub begun_after : Bool → List ℕ → Bool
 begun_after begun [] = begun
 begun_after begun (b ∷ bs) = begun_after (if b == 60 then true else if b == 62 then false else begun) bs
 
--- whether some of these bytes are outside messages and not blank, or a `<` among them begins a message inside an open
--- one
+-- whether some of these bytes are outside messages and not blank, or are a `<` inside an open message
 abbrev pub has_outside : Bool → List ℕ → Bool
 has_outside begun [] = false
 has_outside false (b ∷ bs) = if b == 60 then has_outside true bs else if is_blank b then has_outside false bs else true

@@ -98,7 +98,7 @@ impl<R: Read + Drop> Lines<R> {
         &self.buffer.as_slice()[..self.line]
     }
 
-    /// Moves to the next line if that line was already read completely. Returns whether it did. Nothing is read.
+    /// Moves to the next line if that line was already read completely. Returns whether it moved. Nothing is read.
     pub fn take_held(&mut self) -> bool
         ensures took { MatchBool result (TakesInputLine self.old self.new) (self.new ≡ self.old) }
         ensures fine { result ≡ true → self.old.fault ≡ None }

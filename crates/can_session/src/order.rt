@@ -73,7 +73,7 @@ pub enum Order<'a> {
     Attempt,
     /// Make all attempts that begin before this moment.
     Run(Moment),
-    /// Add the fault rule in this string to the bus.
+    /// Add a fault rule, given as a string, to the bus.
     Fault(&'a [u8]),
     /// Take the interface with this name down.
     Down(&'a [u8]),
