@@ -35,7 +35,7 @@ pub struct Conversation<'a, N: BusName, F: FaultSource + Drop, G: Gate + Drop, R
     session: Session,
     port: PassPort<'a, N, F, G, R>,
     batch: Batch,
-    /// What the first bytes of the connection show: whether the connection comes from a client.
+    /// Whether the connection comes from a client, as far as its first bytes show.
     opening: Opening,
     /// Whether the replies to the last piece of input are longer than a single `< ok >`.
     said_more: bool,

@@ -105,7 +105,7 @@ impl<T: BoundedQueue<Pending>, R: BoundedQueue<Received>, A: Arbiter> BusPort<T,
         &self.bus
     }
 
-    /// Returns the bus and gives up the port.
+    /// Consumes the port and returns its bus.
     pub fn into_bus(self) -> Bus<T, R, A>
         ensures { result ≡ self.journal }
     {
