@@ -1,5 +1,5 @@
--- Values that move from one thread of a server to another, and values that threads share. The list of entries given to
--- a keeper is an enum, which the rules of the language do not cover.
+-- Values that are sent from one thread of a server to another, and values that threads share. The list of entries given to a keeper
+-- is an enum, which the rules of the language do not cover.
 use denote.RattleType.{RattleType}
 use denote.Ref.{NamedLft}
 use denote.Param.Send.{IsSend, IsSync, sendable}

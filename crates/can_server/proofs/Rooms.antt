@@ -21,7 +21,7 @@ module _ {X : Type 0} (f : X → X) where
   map_one_more zero (suc (suc m)) (x ∷ xs) d lt e = absurd (omega (arith, e))
   map_one_more (suc n) (suc m) (x ∷ xs) d lt e = ap (λ ys. f x ∷ ys) (map_one_more n m xs d (omega (arith, lt)) (omega (arith, e)))
 
-  -- the next element is replaced by `f` of it
+  -- the next element `x` is replaced by `f x`
   pub map_next : (n : ℕ) (xs ys : List X) (x y : X) → ys ≡ map_first n xs → n < length xs → x ≡ slice_index_or ys n x → y ≡ f x → set ys n y ≡ map_first (n + 1) xs
   map_next n xs ys x y same lt is made =
       let at : x ≡ slice_index_or (map_first n xs) n x = is ∙ ap (λ zs. slice_index_or zs n x) same in
@@ -34,6 +34,6 @@ module _ {X : Type 0} (f : X → X) where
   map_all zero (x ∷ xs) e = absurd (omega (arith, e))
   map_all (suc n) (x ∷ xs) e = ap (λ ys. f x ∷ ys) (map_all n xs (omega (arith, e)))
 
--- the clients at their places, and whether the server is closed to new clients
+-- equal lists of clients and equal flags give equal states of the server's clients
 pub seen_as : (xs ys : List (Option Client)) (a b : Bool) → xs ≡ ys → a ≡ b → the_seen xs a ≡ the_seen ys b
 seen_as xs ys a b same closed = ap (λ zs. the_seen zs a) same ∙ ap (the_seen ys) closed

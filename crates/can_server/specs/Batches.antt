@@ -3,8 +3,8 @@ use Rattle.std.specs.List.{flat_map}
 use Rattle.can_server.specs.declared.batch.Room.{Room}
 use Rattle.can_dialog.specs.Deliveries.{delivery_text}
 
--- The texts that a server writes to a client (own choice).
+-- The strings that a server writes to a client (own choice).
 
--- the texts of the items in these buffers, in order
+-- the strings for the items in these buffers, in order
 abbrev pub texts_of : List Room → List ℕ
 texts_of rooms = flat_map (λ r. delivery_text r.delivery r.item) rooms

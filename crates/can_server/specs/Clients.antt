@@ -15,24 +15,24 @@ use Rattle.can_server.specs.declared.clients.Phase.TheVariants as stay
 abbrev pub Shared : Type 0
 Shared = Arc Conn Global
 
--- the client at each place, and whether the server is closed to new clients
+-- the client in each slot, and whether the server is closed to new clients
 pub record ClientsSeen : Type 0 where
   pub places : List (Option Client)
   pub is_closed : Bool
 
--- a server without clients: 64 free places
+-- a server without clients: 64 free slots
 abbrev pub no_clients : ClientsSeen
 no_clients = record { places = replicate 64 None; is_closed = false }
 
--- the place exists, and no client has it
+-- the slot exists, and it has no client
 abbrev pub IsFree : List (Option Client) → ℕ → Type 0
 IsFree places place = slice_get places place ≡ Some None
 
--- each place has a client
+-- every slot has a client
 abbrev pub NoneFree : List (Option Client) → Type 0
 NoneFree places = (place : ℕ) → ¬ IsFree places place
 
--- a new connection is given a free place; if the server is closed or no place is free, nothing changes
+-- a new connection gets a free slot; if the server is closed or no slot is free, nothing changes
 abbrev pub Admits : ClientsSeen → Shared → ℕ → Result ℕ NotAdmitted → ClientsSeen → Type 0
 Admits old conn now (Ok place) new =
     (old.is_closed ≡ false)
@@ -55,22 +55,22 @@ is_idle now stay.ShutOut = false
 abbrev pub raw : Client → Client
 raw client = record { conn = client.conn; stay = stay.Raw }
 
--- the places after the session of the client at this place entered raw mode
+-- the slots after the session of the client in this slot entered raw mode
 abbrev pub raw_at : List (Option Client) → ℕ → List (Option Client)
 raw_at places place = set places place (option_map raw (slice_index_or places place None))
 
--- a client after another client found no free place: an idle client is shut out
+-- a client after another client found no free slot: an idle client is shut out
 abbrev pub asked_for_room : ℕ → Client → Client
 asked_for_room now client = record {
   conn = client.conn;
   stay = if is_idle now client.stay then stay.ShutOut else client.stay;
 }
 
--- all clients after another client found no free place
+-- all clients after another client found no free slot
 abbrev pub all_asked : ℕ → List (Option Client) → List (Option Client)
 all_asked now places = map (option_map (asked_for_room now)) places
 
--- there is a client at this place, and the server has shut it out
+-- there is a client in this slot, and the server has shut it out
 abbrev pub IsShutOut : Option Client → Type 0
 IsShutOut None = ⊥
 IsShutOut (Some client) = client.stay ≡ stay.ShutOut

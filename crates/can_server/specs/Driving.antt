@@ -5,7 +5,7 @@ use Rattle.can_attempt.specs.declared.class.Class.TheVariants.{NoAck}
 use Rattle.can_event.specs.declared.attempt.Attempt.{Attempt}
 use Rattle.can_event.specs.declared.attempt.Attempt.TheVariants as attempt
 
--- How a server reports to its host the interfaces whose state an attempt changes (own choice).
+-- The interfaces that a server reports to its host because an attempt changed their state (own choice).
 
 -- the interfaces that went bus off in an attempt
 abbrev pub off_in : Attempt → IfaceSet

@@ -15,16 +15,16 @@ use std::thread::Threads;
 use std::time::Duration;
 use std::{thread, time};
 
-/// The pause in milliseconds after an acceptor could not accept a connection, for example for lack of file descriptors.
+/// The pause in milliseconds after an acceptor could not accept a connection, for example because no file descriptors were left.
 const AFTER_A_FAULT_MS: u64 = 100;
 
-/// The number of failed tries, in about 6 seconds, that count as one session.
+/// The number of failed attempts to accept (about 6 seconds) that count as one session.
 const TRIES: u32 = 64;
 
-/// The number of times that a new connection looks for a free place while idle clients leave. This takes about one second.
+/// How often a new connection checks for a free slot while idle clients disconnect. This takes about one second.
 const TURNS: u32 = 1_000;
 
-/// The visit of an admitted client: its acceptor, its place among the clients, and the number of its session.
+/// The data of an admitted client: its acceptor, its slot in the list of clients, and the number of its session.
 #[derive(Drop)]
 pub struct Visit<'d> {
     pub acceptor: &'d Acceptor,
@@ -35,9 +35,9 @@ pub struct Visit<'d> {
 /// The result of waiting for a client at an acceptor.
 #[derive(Drop)]
 enum Next {
-    /// The client was admitted and has this place.
+    /// The client was admitted and has the slot with this index.
     Admitted(usize),
-    /// All tries failed, or the server could not admit the client.
+    /// All attempts to accept failed, or the server could not admit the client.
     Nobody,
     /// The server is closed.
     Closed,
@@ -52,8 +52,8 @@ impl<
     C: Clock + Sync,
     R: Threads + Wait + time::Clock + Sync,
 > Server<'a, N, F, G, C, R> {
-    /// Accepts connections until the acceptor has had all its sessions or the server is closed. A thread serves each connection. At
-    /// the end this method closes the acceptor and waits for these threads.
+    /// Accepts connections until the acceptor has accepted all its sessions or the server is closed. A thread serves each
+    /// connection. Finally, this method closes the acceptor and waits for these threads.
     pub fn accept_all(&self, acceptor: &Acceptor) {
         thread::scope(thread::scope_env(), self.rt, |scope| {
             for before in 0..self.most_connections(acceptor) {
@@ -98,7 +98,7 @@ impl<'a, N: BusName, F: FaultSource + Drop, G: Gate + Drop, C: Clock, R: Wait + 
         }
     }
 
-    /// Waits at an acceptor for the next connection and admits it. After a failed accept it pauses and tries again.
+    /// Waits at an acceptor for the next connection and admits it. After a failed attempt to accept, it pauses and tries again.
     fn next_client(&self, acceptor: &Acceptor, session: u32) -> Next {
         for _ in 0..TRIES {
             match acceptor.accept() {
@@ -115,12 +115,12 @@ impl<'a, N: BusName, F: FaultSource + Drop, G: Gate + Drop, C: Clock, R: Wait + 
         acceptor.is_used_up() || self.clients.lock(self.rt).is_closed()
     }
 
-    /// Frees a client's place after its session is over, or if no thread could be started for it.
+    /// Frees a client's slot after its session has ended, or if no thread could be started for the session.
     pub fn release(&self, place: usize) {
         self.clients.lock(self.rt).leave(place);
     }
 
-    /// Reports to the host that a session is over.
+    /// Reports to the host that a session has ended.
     pub fn report_end(&self, session: u32, tally: Tally) {
         self.host.notify(Notice::Went {
             session,
@@ -129,8 +129,8 @@ impl<'a, N: BusName, F: FaultSource + Drop, G: Gate + Drop, C: Clock, R: Wait + 
         });
     }
 
-    /// Admits a connection if the server is not closed. If all places are taken and no session is idle, the client receives
-    /// `too many sessions`.
+    /// Admits a connection if the server is not closed. If all slots are taken and no session is idle, the client receives `too
+    /// many sessions`.
     fn admit(&self, conn: Conn, session: u32) -> Next {
         let from = if self.host.wants_notices() {
             conn.peer()
@@ -155,8 +155,7 @@ impl<'a, N: BusName, F: FaultSource + Drop, G: Gate + Drop, C: Clock, R: Wait + 
         }
     }
 
-    /// Finds a place among the clients for a connection. If all places are taken, it shuts out idle clients and waits until one of
-    /// them leaves.
+    /// Finds a slot for a connection. If all slots are taken, it shuts out idle clients and waits until one of them disconnects.
     fn find_place(&self, conn: &Arc<Conn, Global>) -> Result<usize, NotAdmitted> {
         for _ in 0..TURNS {
             let now = self.host.now();
@@ -169,7 +168,7 @@ impl<'a, N: BusName, F: FaultSource + Drop, G: Gate + Drop, C: Clock, R: Wait + 
         Err(NotAdmitted::Full)
     }
 
-    /// Takes a free place, if there is one.
+    /// Takes a free slot, if there is one.
     fn ask_for_place(&self, conn: &Arc<Conn, Global>, now: Moment) -> Result<usize, NotAdmitted> {
         match Arc::try_clone(conn) {
             Ok(shared) => self.clients.lock(self.rt).admit(shared, now),

@@ -31,7 +31,7 @@ impl Listener {
         }
     }
 
-    /// Makes every later `accept` fail if no connection is waiting.
+    /// Makes every later `accept` fail at once if no connection is waiting.
     fn never_waits(&self) -> io::Result<()> {
         match self {
             Listener::Tcp(listener) => listener.set_nonblocking(true),
@@ -39,7 +39,7 @@ impl Listener {
         }
     }
 
-    /// Returns a second handle of the listening socket, which is used to shut it down.
+    /// Returns a second handle for the listening socket, which is used to shut the socket down.
     fn shutdown_handle(&self) -> io::Result<Conn> {
         match self {
             Listener::Tcp(listener) => {
@@ -60,7 +60,7 @@ pub struct Acceptor {
     listener: Listener,
     shutdown_handle: Conn,
     sessions: u32,
-    /// The number of sessions that have entered raw mode, in a run that counts them.
+    /// The number of sessions that have entered raw mode, in runs that count only these.
     raw: AtomicU64,
 }
 
@@ -81,8 +81,8 @@ impl Acceptor {
         self.sessions
     }
 
-    /// Counts a session that entered raw mode. Returns whether the acceptor accepts the session. The last accepted session closes
-    /// the acceptor.
+    /// Counts a session that entered raw mode. Returns whether the acceptor accepts the session. After the last accepted session,
+    /// the acceptor is closed.
     pub(crate) fn count_raw(&self) -> bool {
         let before = self.raw.fetch_add(1, Ordering::SeqCst);
         let sessions = u64::from(self.sessions);
@@ -92,7 +92,7 @@ impl Acceptor {
         before < sessions
     }
 
-    /// Returns whether the acceptor has had all the sessions in raw mode that it accepts.
+    /// Returns whether as many sessions have entered raw mode as the acceptor accepts.
     pub(crate) fn is_used_up(&self) -> bool {
         self.raw.load(Ordering::SeqCst) >= u64::from(self.sessions)
     }
@@ -108,8 +108,8 @@ impl Acceptor {
         self.shutdown_handle.shutdown();
     }
 
-    /// Closes the connections that arrived before the acceptor was closed and that nobody accepted. Linux still returns such
-    /// connections if they are on a Unix path.
+    /// Closes connections that arrived before the acceptor was closed and were not accepted. Linux still returns such connections
+    /// if they are on a Unix path.
     pub(crate) fn turn_away(&self) {
         if self.listener.never_waits().is_err() {
             return;

@@ -15,15 +15,15 @@ use std::io::Write;
 /// The largest number of items in a batch.
 const MOST_ITEMS: usize = 256;
 
-/// The largest number of bytes in an item's text.
+/// The largest number of bytes in the string for an item.
 const LONGEST: usize = 256;
 
 /// The result of receiving a batch of items.
 #[derive(Debug, Clone, Copy, PartialEq, Eq)]
 pub struct Taken {
-    /// The number of buffers that hold the result of a receive.
+    /// The number of buffers that contain the result of a receive.
     pub rooms: usize,
-    /// Whether each receive returned an item, up to the number asked for or the size of a batch. If so, more items may be waiting.
+    /// Whether every receive returned an item, up to the requested number or the size of a batch. If so, more items may be waiting.
     pub are_items: bool,
 }
 
@@ -43,19 +43,19 @@ impl Room {
     }
 }
 
-/// The texts that a client receives in one write. The texts are prepared first and written later. A batch reuses its memory.
+/// The output that a client receives in one write. It is prepared first and written later. A batch reuses its memory.
 #[derive(Drop)]
 pub struct Batch {
     rooms: Vec<Room>,
-    /// The texts of one write.
+    /// The output of one write.
     text: Vec<u8>,
-    /// The largest number of bytes in `text`. A single item may be longer, because an item is never cut.
+    /// The largest number of bytes in `text`. It may be exceeded by a single item, because an item is never cut.
     most_bytes: usize,
     ghost all_rooms: { vec_len rooms ≡ 256 },
 }
 
 impl Batch {
-    /// Returns a batch that writes at most this many bytes at once. A longer item is still written whole.
+    /// Returns a batch that writes at most this many bytes at once. A longer item is still written in one piece.
     pub fn new(alloc: Global, most_bytes: usize) -> Result<Batch, AllocError> {
         let text = Vec::with_capacity(alloc, most_bytes.saturating_add(LONGEST))?;
         let rooms = rooms_of(alloc, Room::empty())?;
@@ -66,10 +66,8 @@ impl Batch {
         })
     }
 
-    /// Passes a piece of the client's input to the session. The batch then contains only the replies of the session, which `write`
-    /// writes.
-    ///
-    /// Refusals: those of `Session::feed`.
+    /// Passes a piece of the client's input to the session. The batch then contains only the session's replies, which `write`
+    /// writes. Refusals: those of `Session::feed`.
     pub fn hear<P: Port>(
         &mut self,
         session: &mut Session,
@@ -101,8 +99,8 @@ impl Batch {
         write_out(&mut self.text, out)
     }
 
-    /// Receives up to `waiting` items of the session's client, but at most 256. Each receive has its own buffer. The first receive
-    /// that returns no item is the last.
+    /// Receives up to `waiting` items for the session's client, but at most 256. Each receive has its own buffer. The first receive
+    /// that returns no item is the last one.
     pub fn take<P: Port>(&mut self, session: &Session, waiting: u64, port: &mut P) -> Taken
         ensures within { result.rooms ≤ 256 }
         ensures all { result.are_items ≡ true → result.rooms ≡ min waiting 256 }
@@ -117,7 +115,7 @@ impl Batch {
         }
     }
 
-    /// Writes the texts of the received items in order. Returns whether the writer accepted them.
+    /// Writes the received items in order. Returns whether the writer accepted them.
     pub fn write_items<W: Write>(&mut self, taken: Taken, out: &mut W) -> bool
         requires { taken.rooms ≤ 256 }
         ensures wrote { IsTrue result → Appends (W.contents out.old) (W.contents out.new)
@@ -160,8 +158,8 @@ fn receive<P: Port>(session: &Session, port: &mut P, rooms: &mut [Room], most: u
     most
 }
 
-/// Writes the texts of the items, with at most `most_bytes` bytes in one write unless an item is longer. Returns whether the writer
-/// accepted them. The text buffer is emptied first, and is empty after a success.
+/// Writes the items, with at most `most_bytes` bytes in one write unless an item is longer. Returns whether the writer accepted
+/// them. The output buffer is emptied first, and is empty after a success.
 fn write_texts<W: Write>(rooms: &[Room], text: &mut Vec<u8>, most_bytes: usize, out: &mut W) -> bool
     ensures wrote { IsTrue result →
         Appends (W.contents out.old) (W.contents out.new) (texts_of rooms.now) }
@@ -179,7 +177,7 @@ fn write_texts<W: Write>(rooms: &[Room], text: &mut Vec<u8>, most_bytes: usize, 
     write_out(text, out)
 }
 
-/// Writes the first `len` bytes of the text and keeps the rest. Returns whether the writer accepted them.
+/// Writes the first `len` bytes of the buffer and keeps the rest. Returns whether the writer accepted them.
 #[inline(never)]
 fn write_front<W: Write>(text: &mut Vec<u8>, len: usize, out: &mut W) -> bool
     requires { len ≤ length text.old.items }
@@ -196,7 +194,7 @@ fn write_front<W: Write>(text: &mut Vec<u8>, len: usize, out: &mut W) -> bool
     true
 }
 
-/// Writes the text, if there is any, and empties it. Returns whether the writer accepted the text.
+/// Writes the contents of the buffer, if there are any, and empties it. Returns whether the writer accepted them.
 fn write_out<W: Write>(text: &mut Vec<u8>, out: &mut W) -> bool
     ensures wrote { IsTrue result → Wrote W.contents out.old text.old.items out.new }
     ensures empty { text.new.items ≡ [] }

@@ -11,10 +11,10 @@ use std::sync::Arc;
 /// The largest number of sessions that run at the same time.
 const MOST_AT_ONCE: usize = 64;
 
-/// The time in microseconds after which a client may lose its place if its session never entered raw mode.
+/// The time in microseconds after which a client may lose its slot if its session never entered raw mode.
 const MOST_IDLE: u64 = 60_000_000;
 
-/// The reason why a connection got no place.
+/// The reason why a connection got no slot.
 #[derive(Debug, Clone, Copy, PartialEq, Eq)]
 pub enum NotAdmitted {
     /// The server admits no more clients.
@@ -26,16 +26,16 @@ pub enum NotAdmitted {
 /// The phase of a client's visit.
 #[derive(Debug, Clone, Copy, PartialEq, Eq)]
 pub enum Phase {
-    /// The client came at this time. Its session has not entered raw mode.
+    /// The client connected at this time. Its session has not entered raw mode.
     New(Moment),
     /// The session of the client has entered raw mode.
     Raw,
-    /// The client was idle when another client needed a place, so the server shut down the connection of the idle client.
+    /// The client was idle when another client required a slot, so the server shut down the connection of the idle client.
     ShutOut,
 }
 
 impl Phase {
-    /// Returns whether a client may lose its place.
+    /// Returns whether a client may lose its slot.
     fn is_idle(self, now: Moment) -> bool
         ensures { result ≡ is_idle now self }
     {
@@ -53,7 +53,7 @@ pub struct Client {
     stay: Phase,
 }
 
-/// The connections of the current sessions, at most 64. Contracts see the client at each place, and whether the server is closed to
+/// The connections of the current sessions, at most 64. Contracts see the client in each slot, and whether the server is closed to
 /// new clients.
 #[derive(Drop)]
 pub struct Clients {
@@ -73,7 +73,7 @@ impl Model for Clients {
 }
 
 impl Clients {
-    /// Returns a list in which all places are free. The memory for all places is allocated here.
+    /// Returns a list in which all slots are free. The memory for all slots is allocated here.
     pub fn new(alloc: Global) -> Result<Clients, AllocError>
         ensures { IfOk result (λ clients. clients ≡ no_clients) }
     {
@@ -87,8 +87,8 @@ impl Clients {
         })
     }
 
-    /// Admits a connection at this time and returns its place. It fails if all places are taken or if the server is closed to new
-    /// clients.
+    /// Admits a connection at this time and returns the index of its slot. It fails if all slots are taken or if the server is
+    /// closed to new clients.
     pub fn admit(&mut self, conn: Arc<Conn, Global>, now: Moment) -> Result<usize, NotAdmitted>
         ensures { Admits self.old conn now result self.new }
     {
@@ -103,7 +103,7 @@ impl Clients {
         Ok(place)
     }
 
-    /// Returns the connection of the client at this place, if there is one.
+    /// Returns the connection of the client in this slot, if there is a client.
     pub(crate) fn conn(&self, place: usize) -> Option<Arc<Conn, Global>> {
         if place >= self.places.len() {
             return None;
@@ -114,7 +114,7 @@ impl Clients {
         }
     }
 
-    // Returns a free place, if there is one.
+    // Returns the index of a free slot, if there is one.
     fn free_place(&self) -> Option<usize>
         ensures { MatchOption result (NoneFree self.now.places)
             (λ place. IsFree self.now.places place) }
@@ -127,7 +127,7 @@ impl Clients {
         None
     }
 
-    /// Notes that the client at this place entered raw mode. The client can no longer lose its place.
+    /// Records that the client in this slot entered raw mode. After that, the client cannot lose its slot.
     pub fn keep(&mut self, place: usize)
         ensures { self.new ≡ record self.old { places = raw_at self.old.places place } }
     {
@@ -138,8 +138,8 @@ impl Clients {
         }
     }
 
-    /// Shuts down the connections of idle clients to make room for another client. A client is idle if it came at least 60 seconds
-    /// ago and its session has not entered raw mode. Returns whether a client that was shut out will soon free its place.
+    /// Shuts down the connections of idle clients to make room for another client. A client is idle if it connected at least 60
+    /// seconds ago and its session has not entered raw mode. Returns whether a client that was shut out will soon free its slot.
     pub fn make_room(&mut self, now: Moment) -> bool
         ensures clients { self.new ≡ record self.old { places = all_asked now self.old.places } }
         ensures soon { IsTrue result ↔ Any IsShutOut self.new.places }
@@ -180,7 +180,7 @@ impl Clients {
     }
 }
 
-/// Shuts out the client at a place if the client is idle.
+/// Shuts out the client in a slot if the client is idle.
 fn ask_for_room(place: &mut Option<Client>, now: Moment)
     ensures { place.new ≡ option_map (asked_for_room now) place.old }
 {
@@ -192,7 +192,7 @@ fn ask_for_room(place: &mut Option<Client>, now: Moment)
     }
 }
 
-/// Returns whether the client at a place was shut out.
+/// Returns whether the client in a slot was shut out.
 fn is_shut_out(place: &Option<Client>) -> bool
     ensures { IsTrue result ↔ IsShutOut place.now }
 {

@@ -6,7 +6,7 @@ use std::io::{Read, Write};
 use std::net::{Shutdown, SocketAddr, TcpStream};
 use std::os::unix::net::UnixStream;
 
-/// A client's connection. Several threads share it.
+/// A client's connection, which is shared by several threads.
 #[derive(Drop)]
 pub enum Conn {
     Tcp(TcpStream),
@@ -14,7 +14,7 @@ pub enum Conn {
 }
 
 impl Conn {
-    /// Waits for bytes from the client and returns their number. It returns 0 at the end of the input.
+    /// Waits for bytes from the client and returns how many were read. Returns 0 at the end of the input.
     pub fn read(&self, piece: &mut [u8]) -> io::Result<usize>
         ensures { IfOk result (λ n. n ≤ length piece.new) }
     {

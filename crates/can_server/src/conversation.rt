@@ -18,7 +18,7 @@ use std::alloc::{AllocError, Global};
 use std::io::Write;
 use std::sync::{Mutex, Wait};
 
-/// The reply to a command that was carried out and has no reply text of its own.
+/// The reply to a command that was carried out and has no other reply.
 const DONE: &[u8] = b"< ok >";
 
 /// The socket of a session in raw mode, and the interface of that socket.
@@ -35,15 +35,15 @@ pub struct Conversation<'a, N: BusName, F: FaultSource + Drop, G: Gate + Drop, R
     session: Session,
     port: PassPort<'a, N, F, G, R>,
     batch: Batch,
-    /// The first bytes of the connection, until they show whether it comes from a client.
+    /// Whether the connection comes from a client, as far as its first bytes show.
     opening: Opening,
-    /// Whether the replies to the last piece are longer than a single `< ok >`.
+    /// Whether the replies to the last piece of input are longer than a single `< ok >`.
     said_more: bool,
 }
 
 impl<'a, N: BusName, F: FaultSource + Drop, G: Gate + Drop, R: Wait> Conversation<'a, N, F, G, R> {
-    /// Returns a session that has just begun. The session may reuse one of the passes in `spares`. It writes at most `most_bytes`
-    /// bytes of items at once.
+    /// Returns a new session. The session may reuse one of the passes in `spares`. It writes at most `most_bytes` bytes of items at
+    /// once.
     pub fn new(
         rt: &'a R,
         alloc: Global,
@@ -60,7 +60,7 @@ impl<'a, N: BusName, F: FaultSource + Drop, G: Gate + Drop, R: Wait> Conversatio
         })
     }
 
-    /// Writes the greeting. Returns whether the session goes on.
+    /// Writes the greeting. Returns whether the session continues.
     pub fn greet<W: Write>(&mut self, out: &mut W) -> bool
         ensures { IsTrue result → Wrote W.contents out.old greeting out.new }
     {
@@ -70,7 +70,7 @@ impl<'a, N: BusName, F: FaultSource + Drop, G: Gate + Drop, R: Wait> Conversatio
         }
     }
 
-    /// Carries out a piece of the client's input, and returns whether the session goes on. If no client would begin a connection
+    /// Carries out a piece of the client's input, and returns whether the session continues. If no client would begin a connection
     /// like this, nothing is carried out. If the client does not accept the output, the session ends.
     pub fn feed<W: Write>(
         &mut self,
@@ -96,7 +96,7 @@ impl<'a, N: BusName, F: FaultSource + Drop, G: Gate + Drop, R: Wait> Conversatio
         self.carry_out(alloc, piece, moment, out)
     }
 
-    /// Carries out a piece of the client's input, as described at `feed`.
+    /// Carries out a piece of the client's input for `feed`, which has already checked how the connection begins.
     fn carry_out<W: Write>(
         &mut self,
         alloc: Global,
@@ -128,8 +128,8 @@ impl<'a, N: BusName, F: FaultSource + Drop, G: Gate + Drop, R: Wait> Conversatio
     }
 
     /// Sends up to `waiting` items to the client, but at most 256. Returns the number of items received, or `None` if there are no
-    /// more. The items are received under one hold of the bus's lock, and their texts are written afterwards. If the client does
-    /// not accept the texts, the session ends.
+    /// more. The items are received under one hold of the bus's lock and written afterwards. If the client does not accept them,
+    /// the session ends.
     pub fn deliver<W: Write>(&mut self, waiting: u64, out: &mut W) -> Option<u64>
         ensures { DeliversItems (PassStep F) W.contents waiting self.old.session self.old.port
             out.old result self.new.session self.new.port out.new }
@@ -162,23 +162,23 @@ impl<'a, N: BusName, F: FaultSource + Drop, G: Gate + Drop, R: Wait> Conversatio
         self.opening == Opening::Stranger
     }
 
-    /// Returns whether the replies to the last piece are longer than a single `< ok >`. If they are, the client can read several
-    /// texts that arrive together.
+    /// Returns whether the replies to the last piece of input are longer than a single `< ok >`. If so, the client can read several
+    /// messages that arrive together.
     pub fn said_more(&self) -> bool {
         self.said_more
     }
 
-    /// Returns whether the session is over.
+    /// Returns whether the session has ended.
     pub fn is_over(&self) -> bool {
         self.session.stage() == Stage::Ended
     }
 
-    /// Returns the station that the session entered.
+    /// Returns the station that the session has entered, if any.
     pub fn station(&self) -> Option<&'a Station<N, F, G, HubBus>> {
         self.port.station()
     }
 
-    /// Returns the open socket of a session in raw mode.
+    /// Returns the open socket of a session that is in raw mode.
     pub fn place(&self) -> Option<OpenSocket<'a, N, F, G>> {
         match (self.session.stage(), self.port.station()) {
             (Stage::Raw(raw), Some(station)) => Some(OpenSocket {
@@ -190,14 +190,14 @@ impl<'a, N: BusName, F: FaultSource + Drop, G: Gate + Drop, R: Wait> Conversatio
         }
     }
 
-    /// Returns the interface that the session has restarted since the last call, if any. An interface that the session took down
-    /// again does not count.
+    /// Returns the interface that the session has restarted since the last call, if any. An interface that the session has taken
+    /// down again does not count.
     pub fn look_for_restart(&mut self) -> Option<Iface> {
         self.port.take_restarted()
     }
 
-    /// Returns the interface that the session has taken down since the last call, if any. An interface that the session restarted
-    /// again does not count.
+    /// Returns the interface that the session has taken down since the last call, if any. An interface that the session has
+    /// restarted again does not count.
     pub fn look_for_down(&mut self) -> Option<Iface> {
         self.port.take_downed()
     }

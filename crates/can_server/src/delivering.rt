@@ -11,7 +11,7 @@ use std::time::Duration;
 use std::{thread, time};
 
 /// The pause in milliseconds before the first items, if the reply to `rawmode` was written separately. Some clients read that reply
-/// and all bytes after it as one text.
+/// and all bytes after it as one message.
 const BEFORE_ITEMS_MS: u64 = 20;
 
 /// The state of the thread that delivers the items of a session in raw mode.
@@ -35,8 +35,8 @@ impl<
     C: Clock,
     R: Wait + time::Clock,
 > Delivery<'s, 't, N, F, G, C, R> {
-    /// Delivers items to the client until the session is over, its socket is closed or the record is full. The session also ends if
-    /// it cannot receive items for another reason, such as lack of memory, or if the client does not accept them.
+    /// Delivers items to the client until the session ends, its socket is closed or the record is full. The session also ends if it
+    /// cannot receive items for another reason, such as lack of memory, or if the client does not accept them.
     pub fn deliver_all(&self) {
         if self.is_reply_apart {
             thread::sleep(self.rt, Duration::from_millis(BEFORE_ITEMS_MS));
@@ -58,7 +58,7 @@ impl<
         }
     }
 
-    /// Ends the session and shuts down its connection. If the record is full, a session that is not over yet goes on.
+    /// Ends the session and shuts down its connection. If the record is full, a session that has not ended yet continues.
     fn end_unless_full(&self, station: &Station<N, F, G, HubBus>) {
         let mut talk = self.talk.lock(self.rt);
         if talk.is_over() || !station.is_full() {
@@ -93,7 +93,7 @@ impl<
 }
 
 /// Stops a station if its record is full. The state of a stopped station no longer changes, even if a socket is closed. The driver
-/// of the station ends and reports the full record to the host.
+/// of the station finishes and reports the full record to the host.
 pub fn stop_full<N: BusName, F: FaultSource + Drop, G: Gate + Drop, R: Wait>(
     rt: &R,
     station: &Station<N, F, G, HubBus>,

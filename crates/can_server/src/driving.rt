@@ -24,9 +24,9 @@ pub const MOST_STEPS: u32 = 64;
 /// The result of a driver's steps.
 #[derive(Drop)]
 pub enum Stepped {
-    /// The driver goes on. These interfaces changed in its last attempt.
+    /// The driver continues. These interfaces changed in its last attempt.
     On(Changes),
-    /// The driver is done. All sessions are over, and a further attempt would change nothing that a session could see.
+    /// The driver has finished. All sessions have ended, and a further attempt would change nothing that a session could see.
     Out,
     /// The station refused a step.
     Refused,
@@ -41,8 +41,8 @@ impl<'a, N: BusName, F: FaultSource + Drop, G: Gate + Drop, C: Clock, R: Wait + 
     C,
     R,
 > {
-    /// Drives a bus until its station is stopped. It makes steps while an interface has a frame to send or is waiting for its
-    /// restart. At the end it hands back the pass and reports a full record or a lack of memory to the host.
+    /// Drives a bus until its station is stopped. It performs steps while an interface has a frame to send or is waiting for its
+    /// restart. Finally, it hands back the pass and reports a full record or a lack of memory to the host.
     pub fn drive(&self, bus: usize) {
         if bus >= self.buses.count() {
             return;
@@ -64,8 +64,8 @@ impl<'a, N: BusName, F: FaultSource + Drop, G: Gate + Drop, C: Clock, R: Wait + 
         }
     }
 
-    /// Steps a bus with this pass. Returns whether the station refused a step, which ends the driver. A station refuses if the
-    /// record is full, there is no memory, or the pass belongs to another station.
+    /// Steps a bus with this pass. Returns whether the station refused a step, in which case the driver finishes. A station refuses
+    /// if the record is full, if there is no memory, or if the pass belongs to another station.
     fn step_all(&self, bus: usize, pass: &mut Pass<N>) -> bool {
         if bus >= self.buses.count() {
             return false;
@@ -104,7 +104,7 @@ impl<'a, N: BusName, F: FaultSource + Drop, G: Gate + Drop, C: Clock, R: Wait + 
         false
     }
 
-    /// Makes up to this many steps of a bus under one hold of its lock. It stops if no interface has a frame to send or is waiting
+    /// Performs up to `most` steps of a bus under one hold of its lock. It stops if no interface has a frame to send or is waiting
     /// for its restart. It also stops after an attempt in which an interface went bus off or was restarted.
     fn step_some(
         &self,
@@ -130,7 +130,7 @@ impl<'a, N: BusName, F: FaultSource + Drop, G: Gate + Drop, C: Clock, R: Wait + 
         Stepped::On(Changes::none())
     }
 
-    /// Reports to the host that the record of a bus is nearly full, if `has_become` is true.
+    /// Reports to the host that the record of a bus is nearly full if `has_become` is true.
     pub fn report_nearly_full(&self, bus: usize, has_become: bool) {
         if has_become {
             self.host.notify(Notice::NearlyFull { bus });
@@ -196,8 +196,8 @@ impl Changes {
     }
 }
 
-/// Returns whether an attempt neither sent a frame nor restarted an interface. After all sessions are over, such attempts only fill
-/// the record.
+/// Returns whether an attempt neither sent a frame nor restarted an interface. After all sessions have ended, such attempts only
+/// fill the record.
 pub fn makes_no_progress(attempt: &Attempt) -> bool
     ensures { IsTrue result ↔ IsInVain attempt.now }
 {

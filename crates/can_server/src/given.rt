@@ -7,7 +7,7 @@ use std::snapshot::Snapshot;
 
 const _: () = prove!(size_of::<Given>() == 0);
 
-// The entries as contracts see them. No value of this type exists at run time.
+// The entries, as contracts see them. No value of this type exists at run time.
 #[derive(Drop)]
 enum Chain {
     Empty,
@@ -41,7 +41,7 @@ impl Given {
         }
     }
 
-    /// Notes that the keeper was given this block.
+    /// Records that the keeper was given this block.
     pub fn note(&mut self, block: &PackedRecord)
         ensures { self.new ≡ self.old ++ block.now.entries }
     {

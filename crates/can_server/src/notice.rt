@@ -1,7 +1,7 @@
 use can_frame::Iface;
 use std::net::SocketAddr;
 
-/// A report of a running server to its host. The sessions of each acceptor are numbered from 1.
+/// A report from a running server to its host. The sessions of each acceptor are numbered from 1.
 #[derive(Debug, Clone, Copy)]
 pub enum Notice {
     /// A session began. The client has this address, or it connected to a Unix path.
@@ -14,7 +14,7 @@ pub enum Notice {
         session: u32,
         from: Option<SocketAddr>,
     },
-    /// The server closed a connection that did not begin as a client's does. Such a connection may come from a web page, for
+    /// The server closed a connection that did not begin the way a client begins. Such a connection may come from a web page, for
     /// example.
     Strange {
         session: u32,
@@ -25,7 +25,7 @@ pub enum Notice {
         bus: usize,
         iface: Iface,
     },
-    /// A session is over. `refused` is the number of its frames that were refused, and `dropped` the number of items that its
+    /// A session has ended. `refused` is the number of its frames that were refused, and `dropped` is the number of items that its
     /// socket dropped. The counts may be too low if the record is full.
     Went {
         session: u32,
@@ -42,21 +42,21 @@ pub enum Notice {
         bus: usize,
         iface: Iface,
     },
-    /// The driver of this bus, which has bit rates, was this many milliseconds late and skipped the lost time. The server reports a
+    /// The driver of this bus, which has bit rates, was `millis` milliseconds late and skipped the lost time. The server reports a
     /// late driver at most once a minute.
     Late {
         bus: usize,
         millis: u64,
     },
-    /// The record of this bus is nine tenths full. The server reports it once.
+    /// The record of this bus is nine tenths full. The server reports this once.
     NearlyFull {
         bus: usize,
     },
-    /// The record of this bus is full, so the bus refuses all further calls. The server reports it once.
+    /// The record of this bus is full, so the bus refuses all further calls. The server reports this once.
     Full {
         bus: usize,
     },
-    /// The driver of this bus ran out of memory, so it makes no more attempts. The server reports it once.
+    /// The driver of this bus ran out of memory, so it makes no more attempts. The server reports this once.
     NoDriver {
         bus: usize,
     },

@@ -1,4 +1,4 @@
-//! Checks the first bytes of a connection. A web page can make its browser send requests to any port of the machine, and no such
+//! Checks the first bytes of a connection. A web page can make its browser send requests to any port of the machine. No such
 //! request begins like a client's message.
 ghost use Rattle.std.specs.Prelude.{◌≡◌};
 ghost use Rattle.can_proto.specs.Words.{is_blank};
@@ -9,16 +9,16 @@ ghost use Rattle.can_server.specs.Openings.{is_undecided as is_open_at, after_by
 pub enum Opening {
     /// Only blanks have arrived so far.
     Blank,
-    /// Other bytes have arrived, but no blank after them.
+    /// Bytes other than blanks have arrived, but no blank after them.
     Word,
     /// The first message has begun, so the connection comes from a client.
     Client,
-    /// No client begins like this. Before the first message there was a control byte that is not a blank, or a blank after other
-    /// bytes.
+    /// No client begins like this. Before the first message there was a control byte that is not a blank, or there was a blank
+    /// after other bytes.
     Stranger,
 }
 
-/// Returns whether the byte may separate words of a message.
+/// Returns whether the byte is a blank, which may separate the words of a message.
 fn is_space(byte: u8) -> bool
     ensures { result ≡ is_blank byte }
 {

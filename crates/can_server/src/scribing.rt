@@ -1,4 +1,4 @@
-//! The output of record entries in long runs. While the server runs, one thread for each bus takes the entries in blocks.
+//! The output of record entries in long runs. While the server runs, each bus has a thread that takes its entries in blocks.
 ghost use Rattle.std.specs.Prelude.{◌≡◌};
 
 use crate::given::Given;
@@ -11,7 +11,7 @@ use std::marker::Model;
 use std::sync::Wait;
 use std::time::{Clock, Duration};
 
-/// The time in seconds for which a thread waits for the first entry of a block before it checks again.
+/// The time in seconds that a thread waits for the first entry of a block before it checks again.
 const IDLE_SECONDS: u64 = 1;
 
 /// A destination for the record entries of one bus in a long run.
@@ -20,11 +20,11 @@ pub trait Keeper {
     ghost use Rattle.can_event.specs.declared.entry.Entry.{Entry};
     ghost use Rattle.can_server.specs.Keeping.{AreLegalLast};
 
-    /// The entries that the keeper has been given, the oldest first.
+    /// The entries that the keeper has been given, oldest first.
     ghost given: { Self → List Entry };
 
-    /// Keeps the entries of a block, which follow the entries of the previous block. The block may be empty if only time has
-    /// passed. No lock is held during the call, and the bus goes on until its tail is full.
+    /// Stores the entries of a block, which follow the entries of the previous block. The block may be empty if only time has
+    /// passed. No lock is held during the call, and the bus continues until its tail is full.
     fn keep(&mut self, block: &Block)
         requires { AreLegalLast block.now.entries.entries }
         ensures { given self.new ≡ given self.old ++ block.now.entries.entries };
@@ -72,7 +72,7 @@ impl<N: BusName, K: Keeper + Drop> ScrollKeeper<N, K> {
         ScrollKeeper { keeper, scroll }
     }
 
-    /// Returns the number of the bus.
+    /// Returns the index of the bus.
     pub fn bus(&self) -> usize
         ensures { result ≡ self.now.number }
     {
@@ -108,14 +108,14 @@ impl<N: BusName, K: Keeper + Drop> ScrollKeeper<N, K> {
 pub struct Scribe<'k, N: RollName, K: Keeper + Drop> {
     kept: &'k mut ScrollKeeper<N, K>,
     block: Block,
-    /// The number of entries for which the scribe waits. `patience` is the longest wait after the first of these entries.
+    /// The number of entries that the scribe waits for. `patience` is the longest wait after the first of these entries.
     many: u64,
     patience: Duration,
 }
 
 impl<'k, N: BusName, K: Keeper + Drop> Scribe<'k, N, K> {
-    /// Returns a scribe for the scroll's bus. The scribe has memory for `size` entries, the number of entries that the bus's tail
-    /// holds. It gives the keeper a block when half of them have arrived, or when `patience` has passed since the first entry.
+    /// Returns a scribe for the scroll's bus. The scribe has memory for `size` entries, which is the capacity of the bus's tail. It
+    /// gives the keeper a block when half of them have arrived, or when `patience` has passed since the first entry.
     pub fn new(
         alloc: Global,
         size: u32,
@@ -130,12 +130,12 @@ impl<'k, N: BusName, K: Keeper + Drop> Scribe<'k, N, K> {
         })
     }
 
-    /// Returns the number of the bus in its hub.
+    /// Returns the index of the bus in its hub.
     pub fn bus(&self) -> usize {
         self.kept.bus()
     }
 
-    /// Gives the keeper all entries of the station, until the station takes no more calls. If the scroll belongs to another
+    /// Gives the keeper all entries of the station, until the station accepts no more calls. If the scroll belongs to another
     /// station, it returns `WrongStation` and gives the keeper nothing.
     pub fn keep_all<F: FaultSource + Drop, G: Gate + Drop, B: Journaled, R: Wait + Clock>(
         self,

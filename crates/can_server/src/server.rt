@@ -13,7 +13,7 @@ use std::sync::{Mutex, Wait};
 use std::thread::Threads;
 use std::{thread, time};
 
-/// The acceptors of a server, and the stream whose end closes these acceptors.
+/// The acceptors of a server, and the stream that closes these acceptors when it ends.
 #[derive(Drop)]
 struct Closing<'d> {
     acceptors: &'d [Acceptor],
@@ -29,10 +29,10 @@ pub struct Server<'a, N: BusName, F: FaultSource + Drop, G: Gate + Drop, C, R> {
     pub host: &'a C,
     pub clients: &'a Mutex<Clients>,
     pub returned: &'a Mutex<ReturnedPasses<N>>,
-    /// Whether the buses are those of long runs. If they are, a session may reuse the pass of a session that is over, and a session
-    /// counts only once it is in raw mode.
+    /// Whether this is a long run. In a long run, a session may reuse the pass of a session that has ended, and a session counts
+    /// only once it is in raw mode.
     pub is_long: bool,
-    /// Whether all sessions are over.
+    /// Whether all sessions have ended.
     pub is_ending: &'a AtomicBool,
 }
 
@@ -44,7 +44,7 @@ impl<
     C: Clock + Sync,
     R: Threads + Wait + time::Clock + Sync,
 > Server<'a, N, F, G, C, R> {
-    /// Runs the server to its end. The drivers run until all sessions are over.
+    /// Runs the server until it finishes. The drivers run until all sessions have ended.
     pub fn run(
         &self,
         acceptors: &[Acceptor],
@@ -72,7 +72,7 @@ impl<
         })
     }
 
-    /// Serves the sessions of all acceptors.
+    /// Serves the sessions from all acceptors.
     fn serve_all(&self, acceptors: &[Acceptor]) -> Result<(), AllocError> {
         thread::scope(thread::scope_env(), self.rt, |scope| {
             for acceptor in acceptors {
@@ -94,7 +94,7 @@ impl<'a, N: BusName, F: FaultSource + Drop, G: Gate + Drop, C: Clock, R: Wait + 
     C,
     R,
 > {
-    /// Ends all other threads after the last session is over.
+    /// Makes all other threads finish after the last session has ended.
     fn finish(&self, until: Option<&UnixStream>) {
         let _ = self.clients.lock(self.rt).close();
         if let Some(until) = until {

@@ -19,8 +19,8 @@ use std::{thread, time};
 /// The largest number of passes that a bus has.
 const MOST_PASSES: u32 = 4096;
 
-/// The default size of a write in bytes. Some clients, such as those of python-can, read 1,024 bytes at a time and lose a message
-/// that is cut.
+/// The default maximum size of a write in bytes. Some clients, such as those of python-can, read 1,024 bytes at a time and lose a
+/// message that is cut.
 const DEFAULT_WRITE: usize = 1024;
 
 /// The host of a server. It supplies the time and receives reports. A host must implement only `now`; the default methods ignore
@@ -29,8 +29,8 @@ pub trait Clock {
     /// Returns the current time.
     fn now(&self) -> Moment;
 
-    /// Returns whether the host wants reports of sessions, which cost a check in each call of a session. The server may ask at any
-    /// time, and the answer must always be the same.
+    /// Returns whether the host wants reports about sessions, which cost a check in every call of a session. The server may query
+    /// this at any time, and the answer must always be the same.
     fn wants_notices(&self) -> bool {
         false
     }
@@ -41,27 +41,21 @@ pub trait Clock {
         DEFAULT_WRITE
     }
 
-    /// Receives a notice. If the host wants no reports, notices of sessions contain no addresses and no counts.
+    /// Receives a notice. If the host wants no reports about sessions, their notices contain no addresses and no counts.
     fn notify(&self, _notice: Notice) {}
 }
 
-/// Runs the sessions of all acceptors over the buses of a hub. Returns all passes, in one list for each bus.
-///
-/// Each bus has a driver, which makes steps while an interface has a frame to send or is waiting for its restart. Each acceptor has
-/// a thread that accepts connections. Each session has a thread that reads and, in raw mode, a thread that delivers items.
-///
-/// The function returns after the acceptors have accepted all their sessions and these sessions are over. It also returns after the
-/// end of `until`: the server then admits no more clients and shuts down the current sessions. An acceptor is closed after its last
-/// session, so that the system refuses later connections.
-///
-/// If 64 sessions are running, the next client receives `too many sessions` and counts as accepted. There is one exception. If a
-/// session began at least 60 seconds ago by the clock and has not entered raw mode, the server closes it and gives its place to the
-/// new client.
-///
-/// If an acceptor cannot accept a connection, for example for lack of file descriptors, it tries again every 100 ms. 64 failed
-/// tries count as one session. A fault of a session's connection, or a lack of memory for a session, ends only that session. The
-/// result is `AllocError` if there was not enough memory to start the server. All threads that were started are then over, and the
-/// stations are stopped.
+/// Runs the sessions from all acceptors over the buses of a hub. Returns all passes, in one list for each bus. Each bus has a
+/// driver, which performs steps while an interface has a frame to send or is waiting for its restart. Each acceptor has a thread
+/// that accepts connections. Each session has a thread that reads and, in raw mode, a thread that delivers items. The function
+/// returns after the acceptors have accepted all their sessions and these sessions have ended. It also returns after the end of
+/// `until`: the server then admits no more clients and shuts down the current sessions. An acceptor is closed after its last
+/// session, so that the system refuses later connections. If 64 sessions are running, the next client receives `too many sessions`
+/// and counts as accepted. There is one exception. If a session began at least 60 seconds ago by the clock and has not entered raw
+/// mode, the server closes it and gives its slot to the new client. If an acceptor cannot accept a connection, for example because
+/// no file descriptors are left, it tries again every 100 ms. 64 failed attempts to accept count as one session. A fault of a
+/// session's connection, or a lack of memory for a session, ends only that session. The result is `AllocError` if there was not
+/// enough memory to start the server. All threads that were started have then finished, and the stations are stopped.
 pub fn serve<
     N: BusName + Send + Sync,
     F: FaultSource + Drop + Send,
@@ -112,7 +106,7 @@ impl<
     R: Threads + Wait + time::Clock + Sync,
     K: Keeper + Drop + Send,
 > LongServer<'s, 'a, 'k, N, F, G, C, R, K> {
-    /// Runs the server to its end, with a scribe for each bus. The scribes go on until all other threads are over.
+    /// Runs the server until it finishes, with a scribe for each bus. The scribes continue until all other threads have finished.
     fn run(&self) -> Result<(), AllocError> {
         thread::scope(thread::scope_env(), self.server.rt, |scope| {
             let mut is_started = true;
@@ -142,21 +136,18 @@ impl<
         }
     }
 
-    /// Runs the sessions of the acceptors.
+    /// Runs the sessions from the acceptors.
     fn serve(&self) -> Result<(), AllocError> {
         self.server.run(self.acceptors, self.until)
     }
 }
 
-/// Runs a server as `serve` does, with scribes. Buses of long runs need one scribe each; without a scribe, the sessions of a bus
-/// wait as soon as the bus's tail is full.
-///
-/// With scribes, a session may reuse the pass of a session that is over, so the number of sessions in a run has no limit. A session
-/// then counts for its acceptor only once it is in raw mode. A session that enters raw mode after the last one that counts receives
-/// `too many sessions`.
-///
-/// The scribes go on until the other threads are over, and then give their keepers the last entries. The result is `AllocError` as
-/// for `serve`; the scribes are then over, too.
+/// Runs a server as `serve` does, with scribes. In a long run, each bus must have one scribe; without a scribe, the sessions of a
+/// bus wait as soon as the bus's tail is full. With scribes, a session may reuse the pass of a session that has ended, so the
+/// number of sessions in a run has no limit. A session then counts for its acceptor only once it is in raw mode. A session that
+/// enters raw mode after the last one that counts receives `too many sessions`. The scribes continue until the other threads have
+/// finished, and then give their keepers the last entries. The result is `AllocError` as for `serve`; the scribes have then
+/// finished, too.
 pub fn serve_with<
     'x,
     N: BusName + Send + Sync,
@@ -214,7 +205,7 @@ pub fn serve_with<
     Ok(returned.into_inner().into_lists(hub.count()))
 }
 
-/// Returns the largest number of passes that the sessions of these acceptors and a driver take from one bus.
+/// Returns the largest number of passes that a driver and the sessions from these acceptors take from one bus.
 fn most_passes(acceptors: &[Acceptor]) -> usize {
     let mut most = 1_u32;
     for acceptor in acceptors {

@@ -19,9 +19,9 @@ const PIECE: usize = 4096;
 
 /// The result of one read.
 enum ReadOutcome {
-    /// The session carried out a piece of input and goes on.
+    /// The session carried out a piece of input and continues.
     More,
-    /// The session is over.
+    /// The session has ended.
     Over,
     /// The client has closed the connection.
     Gone,
@@ -36,7 +36,8 @@ impl<
     C: Clock + Sync,
     R: Threads + Wait + time::Clock + Sync,
 > Server<'a, N, F, G, C, R> {
-    /// Runs a session to its end and hands back its pass. The place is free before the client sees the end of the connection.
+    /// Runs a session until it ends, and hands back its pass. The client's slot is freed before the client sees the end of the
+    /// connection.
     pub fn run_session(&self, visit: &Visit<'_>) {
         let Some(conn) = self.clients.lock(self.rt).conn(visit.place) else {
             return;
@@ -47,7 +48,7 @@ impl<
         self.report_end(visit.session, tally);
     }
 
-    /// Serves a client until its session is over, and then hands back the pass. Returns the counts of the session's calls.
+    /// Serves a client until its session has ended, and then hands back the pass. Returns the counts of the session's calls.
     fn converse(&self, visit: &Visit<'_>, conn: &Conn) -> Tally {
         let most = self.host.write_bytes();
         let Ok(mut talk) = Conversation::new(self.rt, self.alloc, self.buses, self.spares(), most)
@@ -68,12 +69,13 @@ impl<
         tally
     }
 
-    /// Returns the passes that a session may reuse.
+    /// Returns the passes that a session may reuse, if this is a long run.
     fn spares(&self) -> Option<&'a Mutex<ReturnedPasses<N>>> {
         self.is_long.then_some(self.returned)
     }
 
-    /// Reads the client's input. Once the session is in raw mode, the client keeps its place and another thread delivers the items.
+    /// Reads the client's input. Once the session is in raw mode, the client cannot lose its slot, and another thread delivers the
+    /// items.
     fn hear_all(&self, talk: &Mutex<Conversation<'_, N, F, G, R>>, visit: &Visit<'_>, conn: &Conn) {
         let Some(place) = self.hear_until_raw(talk, conn) else {
             self.report_stranger(talk, visit.session);
@@ -151,8 +153,8 @@ impl<'a, N: BusName, F: FaultSource + Drop, G: Gate + Drop, C: Clock, R: Wait + 
         unreachable!()
     }
 
-    /// Reads until the session is over or the client is gone. If the client is gone, it shuts down the connection. A thread that is
-    /// writing to the connection then returns, too.
+    /// Reads until the session has ended or the client has disconnected. In the second case it shuts down the connection, so that a
+    /// thread that is writing to the connection also returns.
     fn hear_on(&self, talk: &Mutex<Conversation<'_, N, F, G, R>>, conn: &Conn) {
         for _ in self.rt.forever() {
             match self.hear(talk, conn) {
@@ -166,7 +168,7 @@ impl<'a, N: BusName, F: FaultSource + Drop, G: Gate + Drop, C: Clock, R: Wait + 
         }
     }
 
-    /// Reports to the host if the session's connection began in a way that no client uses.
+    /// Reports to the host that the session's connection began in a way that no client uses, if it did.
     fn report_stranger(&self, talk: &Mutex<Conversation<'_, N, F, G, R>>, session: u32) {
         let is_strangers = talk.lock(self.rt).is_strangers();
         if is_strangers {
@@ -174,7 +176,7 @@ impl<'a, N: BusName, F: FaultSource + Drop, G: Gate + Drop, C: Clock, R: Wait + 
         }
     }
 
-    /// Reports to the host if a session restarted an interface.
+    /// Reports to the host that a session restarted an interface, if it did.
     fn report_restart(&self, station: &Station<N, F, G, HubBus>, restarted: Option<Iface>) {
         if let Some(iface) = restarted {
             let bus = usize::from(station.number());
@@ -182,7 +184,7 @@ impl<'a, N: BusName, F: FaultSource + Drop, G: Gate + Drop, C: Clock, R: Wait + 
         }
     }
 
-    /// Reports to the host if a session took an interface down.
+    /// Reports to the host that a session took an interface down, if it did.
     fn report_down(&self, station: &Station<N, F, G, HubBus>, downed: Option<Iface>) {
         if let Some(iface) = downed {
             let bus = usize::from(station.number());

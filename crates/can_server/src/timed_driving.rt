@@ -20,10 +20,10 @@ use std::sync::atomic::Ordering;
 use std::time;
 use std::time::Duration;
 
-/// The largest delay in nanoseconds that a driver makes up for. A driver that is later skips the time that it missed.
+/// The largest delay in nanoseconds that a driver makes up for. A driver that is later than this skips the time that it missed.
 const MOST_LATE: u64 = 100_000_000;
 
-/// The smallest time in microseconds between two reports that a driver is late.
+/// The smallest time in microseconds between two reports of a late driver.
 const BETWEEN_NOTES: u64 = 60_000_000;
 
 /// The state that the driver of a bus with bit rates keeps while it does not hold the lock.
@@ -48,7 +48,7 @@ impl Timed {
         }
     }
 
-    /// If the next attempt is too late, restarts the schedule at this time. A delay is reported at most once a minute.
+    /// Restarts the schedule at this time if the next attempt is too late. The delay is reported, but at most once a minute.
     fn catch_up(&mut self, now: Moment)
         ensures schedule { self.new.schedule ≡ caught_up now self.old.schedule }
         ensures more { self.new.has_more ≡ self.old.has_more }
@@ -77,11 +77,11 @@ impl<'a, N: BusName, F: FaultSource + Drop, G: Gate + Drop, C: Clock, R: Wait + 
     C,
     R,
 > {
-    /// Drives a bus with bit rates until its station is stopped. It makes steps while an interface has a frame to send or is
-    /// waiting for its restart, each step when the wire is free. Returns whether the station refused a step, which ends the driver.
-    /// The schedule lets each attempt begin at the end of the previous one. That end follows from the length of the attempt, not
-    /// from the clock, so a driver that wakes late does not stay late. A late driver makes up to 64 attempts under one hold of the
-    /// lock.
+    /// Drives a bus with bit rates until its station is stopped. It performs steps while an interface has a frame to send or is
+    /// waiting for its restart, each step when the wire is free. Returns whether the station refused a step, in which case the
+    /// driver finishes. In the schedule, each attempt begins at the end of the previous one. That end follows from the length of
+    /// the attempt, not from the clock, so a driver that wakes late does not stay late. A late driver makes up to 64 attempts under
+    /// one hold of the lock.
     pub fn step_in_time(&self, bus: usize, timing: Timing, pass: &mut Pass<N>) -> bool {
         if bus >= self.buses.count() {
             return false;
@@ -138,7 +138,7 @@ impl<'a, N: BusName, F: FaultSource + Drop, G: Gate + Drop, C: Clock, R: Wait + 
     }
 
     /// Makes the next attempt, which is due, and all further attempts that are due. It stops after an attempt in which an interface
-    /// went bus off or was restarted. After all sessions are over, it also makes attempts that are not yet due.
+    /// went bus off or was restarted. After all sessions have ended, it also makes attempts that are not yet due.
     fn step_all_due(
         &self,
         hold: &mut Hold<'_, N, F, G, HubBus>,
@@ -173,8 +173,8 @@ impl<'a, N: BusName, F: FaultSource + Drop, G: Gate + Drop, C: Clock, R: Wait + 
         Stepped::On(Changes::none())
     }
 
-    /// Makes the next attempt of a schedule at its scheduled time and notes the outcome in the schedule. The delivering threads
-    /// know when the attempt ends before its items arrive.
+    /// Makes the next attempt of a schedule at its scheduled time and records the outcome in the schedule. The end of the attempt
+    /// is published first, so the delivering threads can read it before the items arrive.
     fn step_once(
         &self,
         hold: &mut Hold<'_, N, F, G, HubBus>,
@@ -204,7 +204,7 @@ impl<'a, N: BusName, F: FaultSource + Drop, G: Gate + Drop, C: Clock, R: Wait + 
     }
 }
 
-/// Returns when the next attempt of a schedule begins. The attempt tries this frame, if there is one.
+/// Returns the time of the next attempt in a schedule: the end of this frame, or the end of the attempt if there is no frame.
 fn head_moment(schedule: &Schedule, head: Option<(Iface, Frame)>) -> Moment
     ensures { result ≡ head_moment schedule.now head }
 {
@@ -214,7 +214,7 @@ fn head_moment(schedule: &Schedule, head: Option<(Iface, Frame)>) -> Moment
     }
 }
 
-/// Notes in a schedule the outcome of an attempt that had this verdict.
+/// Records in a schedule the outcome of an attempt that had this verdict.
 fn note_attempt(schedule: &mut Schedule, verdict: Verdict, attempt: &Attempt)
     ensures { schedule.new ≡ after_attempt verdict attempt.now schedule.old }
 {

@@ -1,4 +1,4 @@
--- The reply of a bus to an event is the reply of a port's step.
+-- The replies of a bus to an event are the replies that a step of a port allows.
 use Rattle.std.proofs.Common.{◌≡◌, Bool, Result, Ok, Err, refl}
 use Rattle.can_event.specs.declared.event.Event.{Event}
 use Rattle.can_event.specs.declared.event.Event.TheVariants as event
@@ -33,7 +33,7 @@ module _ (old new : NamedBus) (names : new.names ≡ old.names) (plan : new.plan
       → IsEvent told old e (Err (port.Bus why)) new
   refused told why e a is = (Err why, refl, refuses old.journal new.journal e why a is, names, plan, schedule)
 
-  -- the reply is a step for this kind of event, because it is the legal reply
+  -- the reply is a valid step for this kind of event because it is the legal reply
   pub gives : (e : Event) (r : Reply) → IsAnswer old.journal.config old.journal.history e r → new.journal ≡ record old.journal { history = history_after e r old.journal.history } → Replies BusStep old e r new
   gives (event.Open iface capacity) (reply.Opened s) a is = given (λ x. reply.Opened x) s _ (record { room = a.0; lawful = a.1; new_is = is })
   gives (event.Close socket) (reply.Closed counts) a is = given (λ x. reply.Closed x) counts _ (record { room = a.0; lawful = a.1; new_is = is })
@@ -52,7 +52,7 @@ module _ (old new : NamedBus) (names : new.names ≡ old.names) (plan : new.plan
   gives e (reply.Refused why) a is = refused done_reply why _ a is
   gives e r a is = absurd (legal_is_spelled old.journal.config old.journal.history e r a.1)
 
--- a receive into a buffer is the same event as a receive
+-- a receive into a buffer is the same event as an ordinary receive
 pub receives_into : (old new : NamedBus) (s : SocketId) (room : Received) (outcome : Result Bool Refusal) → Answers (taken_reply room) old.journal (event.Receive s) outcome new.journal → new.names ≡ old.names → new.plan ≡ old.plan → new.schedule ≡ old.schedule
     → BusStep old (Receive s) (received_into room (passed_on outcome)) new
 receives_into old new s room (Ok taken) answers names plan schedule = (Ok (taken_item room taken), refl, answers, names, plan, schedule)

@@ -1,4 +1,4 @@
--- A run keeps the configuration of its bus.
+-- A run does not change the configuration of its bus.
 use Rattle.std.proofs.Common.{◌≡◌, inl, inr, ℕ, zero, suc, Bool, List, [], ◌∷◌, Result, Ok, Err, refl, ap, ◌∙◌}
 use Rattle.can_fault.specs.Sources.{VerdictMap}
 use Rattle.can_fault.specs.declared.verdict.Verdict.{Verdict}
@@ -27,7 +27,7 @@ use Rattle.can_session.specs.Orders.{Effect}
 use Rattle.can_session.specs.Orders.Effect.{Does_nothing, Sets, Starts, Feeds, Drains, Ends, Attempts, Runs, Injects, TakesDown, BringsUp}
 use Rattle.can_session.specs.Benches.{BenchState, IsFedAt, IsTried, AreTried, NoneFollows, AreMade, Does, AreCarriedOut, passed, sourced}
 
--- the configuration of a bus with names, and of a bench
+-- the configuration of a bus with names, and the configuration of a bench
 abbrev of_bus : NamedBus → BusConfig
 of_bus p = p.journal.config
 
@@ -120,7 +120,7 @@ done v (Injects rule) b text after h = ap of_bench h.1.after_is
 done v (TakesDown name) b text after h = ap of_bench h.after_is ∙ answered _ b.bus.journal _ h.outcome h.journal h.answers
 done v (BringsUp name) b text after h = ap of_bench h.after_is ∙ answered _ b.bus.journal _ h.outcome h.journal h.answers
 
--- lines that are carried out do not change the configuration
+-- carrying out lines does not change the configuration
 pub carried_out : (v : VerdictMap) (lines : List (List ℕ)) (b : BenchState) (text : List ℕ) (after : BenchState) → AreCarriedOut v lines b text after → of_bench after ≡ of_bench b
 carried_out v [] b text after h = ap of_bench h.1
 carried_out v (line ∷ lines) b text after (first, mid, others, one, more, is) = carried_out v lines mid others after more ∙ done v one.effect b first mid one.does

@@ -10,7 +10,7 @@ use Rattle.can_bus.specs.Answer.{Answers}
 use Rattle.can_session.specs.BusSteps.{NamedBus}
 use Rattle.can_session.specs.Benches.{BenchState, IsChanged, IsDenied, IsWrongChange, IsLeftBy, change_line, is_good_change}
 
--- a refusal that makes a line wrong is not that of a full record
+-- a refusal that makes a line wrong has a reason other than a full record
 not_full : (why : Refusal) → is_good_change (Err why) ≡ false → why ≢ refusal.RecordFull
 not_full refusal.RecordFull bad = cc
 not_full why bad = λ full. let same : is_good_change (Err why) ≡ true = ap (λ (w : Refusal). is_good_change (Err w)) full in cc
@@ -38,7 +38,7 @@ by event_of name b iface outcome bus said true named answers same is put = recor
 }
 by event_of name b iface outcome bus said false named answers same is put = inr (denied event_of name b iface outcome bus.journal (sym is) named answers)
 
--- the changes to the bus and the output are those of a line that takes an interface down or brings it up
+-- the changes to the bus and the output are those that a line that takes an interface down or brings it up should have
 pub changed_by : {E : Type 0} (event_of : ℕ → ℕ → Event) (name : List ℕ) (b : BenchState) (iface : ℕ) (outcome : Result (Unit {0}) Refusal) (bus : NamedBus) (said : List ℕ) (r : Result Bool E)
     → place_of b.bus.names name ≡ Some iface → Answers done_reply b.bus.journal (event_of iface b.moment) outcome bus.journal → bus ≡ record b.bus { journal = bus.journal }
     → IfOk r (λ good. good ≡ is_good_change outcome) → IfOk r (λ good. good ≡ true → said ≡ change_line outcome)
@@ -46,7 +46,7 @@ pub changed_by : {E : Type 0} (event_of : ℕ → ℕ → Event) (name : List �
 changed_by event_of name b iface outcome bus said (Ok good) named answers same is put = by event_of name b iface outcome bus said good named answers same is put
 changed_by event_of name b iface outcome bus said (Err e) named answers same is put = tt
 
--- after a wrong line, the bench has the change that its bus refused
+-- after a wrong line, the record of the bench contains the change that its bus refused
 left_by : (event : Event) (b : BenchState) (outcome : Result (Unit {0}) Refusal) (bus : NamedBus)
     → is_good_change outcome ≡ false → Answers done_reply b.bus.journal event outcome bus.journal → bus ≡ record b.bus { journal = bus.journal } → IsLeftBy b (record b { bus = bus })
 left_by event b (Ok done) bus bad answers same = cc

@@ -1,4 +1,4 @@
--- The index of the first occurrence of a byte, as a search in blocks finds it.
+-- The index of the first occurrence of a byte, as found by a search in blocks.
 use Rattle.std.proofs.Common.{◌≡◌, ℕ, false, List, length, get_or, Option, Some, None, arith, ◌==◌}
 use Rattle.std.specs.List.{position}
 use Rattle.std.proofs.lemmas.List.Sums.{position_or_len_is}

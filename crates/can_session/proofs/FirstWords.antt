@@ -1,11 +1,11 @@
--- The effect of a line that begins with one of the most frequent words.
+-- The effect of a line that begins with one of the most frequent command words.
 use Rattle.std.proofs.Common.{◌≡◌, ◌+◌, ℕ, Bool, List, ◌∷◌, length, take, drop, Option, Some, None, cond, ap, arith}
 use Rattle.std.specs.Option.{option_map, option_and_then}
 use Rattle.std.proofs.lemmas.Bool.{lt-ltb}
 use Rattle.can_frame.specs.Moments.{moment_in}
 use Rattle.can_session.specs.Orders.{Effect, Sets, Drains, asked_by_word, order_of, fed_by, parted, session_of}
 
--- the effect of a line, given the index of its first space, if it has one
+-- the effect of a line, given the index of its first space and whether it has one
 abbrev asked : List ℕ → ℕ → Bool → Option Effect
 asked line n there = option_and_then asked_by_word (option_map (λ k. (take k line, drop (k + 1) line)) (cond there (Some n) None))
 

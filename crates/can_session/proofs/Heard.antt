@@ -4,7 +4,7 @@ use Rattle.std.proofs.lemmas.List.{take_more, take_all}
 use Rattle.can_session.specs.IgnoredInput.{begun_after, has_outside}
 use Rattle.can_proto.specs.Messages.{has_mark}
 
--- one more byte at the end: a mark decides whether a message is open, and another byte changes nothing
+-- one more byte at the end: a mark decides whether a message is open, and any other byte changes nothing
 begun_at_last : (begun : Bool) (bytes : List ℕ) (b : ℕ) → begun_after begun (bytes ++ b ∷ []) ≡ (if b == 60 then true else if b == 62 then false else begun_after begun bytes)
 begun_at_last begun [] b = refl
 begun_at_last begun (x ∷ bytes) b = begun_at_last (if x == 60 then true else if x == 62 then false else begun) bytes b
@@ -34,7 +34,7 @@ last_leaves begun bytes some m n =
 none_of : (a b c : Bool) → ((a || b) || c) ≡ false → (a ≡ false) × ((b ≡ false) × (c ≡ false))
 none_of a b c h = grind (arith, common_steps, h)
 
--- after a `<`, a text without marks and its `>` are inside a message
+-- after a `<`, bytes without marks and the `>` after them are inside a message
 pub closed : (inside rest : List ℕ) → has_mark inside ≡ false → has_outside true (inside ++ 62 ∷ rest) ≡ has_outside false rest
 closed [] rest none = refl
 closed (x ∷ inside) rest none =
@@ -42,7 +42,7 @@ closed (x ∷ inside) rest none =
     ap (λ (m : Bool). if m then true else has_outside (if x == 62 then false else true) (inside ++ 62 ∷ rest)) h.0
     ∙ ap (λ (m : Bool). has_outside (if m then false else true) (inside ++ 62 ∷ rest)) h.1.0 ∙ closed inside rest h.1.1
 
--- a piece that is exactly one message has no bytes outside of messages
+-- a piece that is exactly one message has no bytes outside messages
 pub whole : (bytes : List ℕ) → 2 ≤ length bytes → get_or bytes 0 0 ≡ 60 → get_or bytes (length bytes - 1) 0 ≡ 62
     → has_mark (take (length bytes - 1 - 1) (drop 1 bytes)) ≡ false → has_outside false bytes ≡ false
 whole [] some first last none = absurd (omega (arith, some))

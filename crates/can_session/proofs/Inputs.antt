@@ -1,4 +1,4 @@
--- The remaining bytes of an input, step by step.
+-- The remaining bytes of an input after each step.
 use Rattle.std.proofs.Common.{◌≡◌, ℕ, ◌+◌, inl, List, [], ◌∷◌, ◌++◌, length, take, drop, Option, Some, None, refl, sym, ap, subst, ◌∙◌, append_assoc, arith, false}
 use Rattle.std.specs.Io.KnownBytes.{Consumes, Keeps, prepend_known}
 use Rattle.std.proofs.lemmas.List.{take-append-drop, length-append, length-take-le}
@@ -30,13 +30,13 @@ overruns old new all n gains one held given reads full =
       full = full;
     }
 
--- the input gives the first held bytes
+-- the input returns the first held bytes
 pub passed : (old coming : Option (List ℕ)) (held front rest : List ℕ) → Keeps old (prepend_known held coming) → held ≡ front ++ rest → Consumes old (prepend_known rest coming) front
 passed None coming held front rest h e = tt
 passed (Some x) None held front rest h e = absurd h
 passed (Some x) (Some y) held front rest h e = sym h ∙ ap (λ l. l ++ y) e ∙ append_assoc front rest y
 
--- the current line was at the front of the held bytes
+-- the current line was at the start of the held bytes
 pub takes : (old mid new : Input) (len : ℕ) → old.ended ≡ false → mid.fault ≡ old.fault → Waits old mid → LineAt mid.held len → new ≡ record mid { line = take len mid.held; given = mid.given + (len + 1); held = drop (len + 1) mid.held } → TakesInputLine old new
 takes old mid new len going fine waits at is =
     let front = take len mid.held ++ 10 ∷ [] in

@@ -1,4 +1,4 @@
--- The lines that an input gives are the lines of the text that its reader had.
+-- The lines that an input returns are the lines of the text that its reader had.
 use Rattle.std.proofs.Common.{◌≡◌, ℕ, suc, ◌+◌, ◌<◌, false, inl, inr, List, [], ◌∷◌, ◌++◌, length, take, drop, Option, Some, None, refl, sym, ap, subst, ◌∙◌, append_assoc, append-nil, zero-add, arith, if◌then◌else◌}
 use Rattle.std.specs.Prelude.{count_by}
 use Rattle.std.specs.List.{list_any, AllByRecursion}
@@ -13,18 +13,18 @@ use Rattle.can_session.specs.Lines.{is_lf, with_byte, lines_of_text, whole_lines
 abbrev Unbroken : List ℕ → Type 0
 Unbroken line = list_any is_lf line ≡ false
 
--- the first byte is not LF
+-- if the first byte is not LF, it belongs to the first line
 goes_on : (b : ℕ) (bs : List ℕ) → is_lf b ≡ false → lines_of_text (b ∷ bs) ≡ with_byte b (lines_of_text bs)
 goes_on b bs h = ap (λ t. if t then [] ∷ lines_of_text bs else with_byte b (lines_of_text bs)) h
 
--- a line with its LF is the first line
+-- bytes up to the first LF are the first line
 first_line : (line rest : List ℕ) → Unbroken line → lines_of_text (line ++ 10 ∷ rest) ≡ line ∷ lines_of_text rest
 first_line [] rest h = refl
 first_line (b ∷ bs) rest h =
     let parts = or_parts (is_lf b) (list_any is_lf bs) h in
     goes_on b (bs ++ 10 ∷ rest) parts.0 ∙ ap (with_byte b) (first_line bs rest parts.1)
 
--- bytes without LF are the beginning of the first line
+-- bytes without LF are the start of the first line
 front_line : (b : ℕ) (bs rest : List ℕ) → Unbroken (b ∷ bs) → (line : List ℕ) × (more : List (List ℕ)) × (lines_of_text ((b ∷ bs) ++ rest) ≡ ((b ∷ bs) ++ line) ∷ more)
 front_line b [] rest h =
     let parts = or_parts (is_lf b) (list_any is_lf []) h in
@@ -45,14 +45,14 @@ last_line (b ∷ (c ∷ cs)) h pos =
     let parts = or_parts (is_lf b) (list_any is_lf (c ∷ cs)) h in
     goes_on b (c ∷ cs) parts.0 ∙ ap (with_byte b) (last_line (c ∷ cs) parts.1 (omega arith))
 
--- lines with their LFs are the first lines
+-- lines that each end with LF are the first lines of a text
 pub first_lines : (lines : List (List ℕ)) (rest : List ℕ) → AllByRecursion Unbroken lines → lines_of_text (spelled lines ++ rest) ≡ lines ++ lines_of_text rest
 first_lines [] rest h = refl
 first_lines (line ∷ lines) rest h =
     ap lines_of_text (append_assoc (line ++ 10 ∷ []) (spelled lines) rest ∙ append_assoc line (10 ∷ []) (spelled lines ++ rest))
     ∙ first_line line (spelled lines ++ rest) h.0 ∙ ap (λ l. line ∷ l) (first_lines lines rest h.1)
 
--- the count of LFs with one more byte at the front
+-- how many LFs there are after one more byte is added at the front
 count_first : (b : ℕ) (bs : List ℕ) → count_by is_lf (b ∷ bs) ≡ (if is_lf b then 1 else 0) + count_by is_lf bs
 count_first b bs = sum_by-cons (λ x. if is_lf x then 1 else 0) b bs
 
@@ -68,20 +68,20 @@ one_lf (b ∷ bs) rest h =
     let parts = or_parts (is_lf b) (list_any is_lf bs) h in
     count_first b (bs ++ 10 ∷ rest) ∙ ap (λ t. (if t then 1 else 0) + count_by is_lf (bs ++ 10 ∷ rest)) parts.0 ∙ ap (λ n. 0 + n) (one_lf bs rest parts.1) ∙ zero-add _
 
--- there are as many LFs as lines
+-- there are as many LFs as complete lines
 lf_count : (lines : List (List ℕ)) (held : List ℕ) → AllByRecursion Unbroken lines → Unbroken held → count_by is_lf (spelled lines ++ held) ≡ length lines
 lf_count [] held h k = no_lf held k
 lf_count (line ∷ lines) held h k =
     ap (count_by is_lf) (append_assoc (line ++ 10 ∷ []) (spelled lines) held ∙ append_assoc line (10 ∷ []) (spelled lines ++ held))
     ∙ one_lf line (spelled lines ++ held) h.0 ∙ ap suc (lf_count lines held h.1 k)
 
--- these are all lines that end with LF in the bytes that were read
+-- these are all lines that end with LF among the bytes that were read
 all_whole : (lines : List (List ℕ)) (held : List ℕ) → AllByRecursion Unbroken lines → Unbroken held → lines ≡ whole_lines (spelled lines ++ held)
 all_whole lines held h k =
     let text = spelled lines ++ held in
     sym (ap (λ n. take n (lines_of_text text)) (lf_count lines held h k) ∙ ap (take (length lines)) (first_lines lines held h) ∙ take_at lines (lines_of_text held) (length lines) refl)
 
--- the text of these lines with one more line
+-- the text of these lines followed by one more line
 spelled_more : (lines : List (List ℕ)) (line rest : List ℕ) → spelled (lines ++ line ∷ []) ++ rest ≡ spelled lines ++ ((line ++ 10 ∷ []) ++ rest)
 spelled_more [] line rest = ap (λ l. l ++ rest) (append-nil (line ++ 10 ∷ []))
 spelled_more (l ∷ ls) line rest = append_assoc (l ++ 10 ∷ []) (spelled (ls ++ line ∷ [])) rest ∙ ap (λ t. (l ++ 10 ∷ []) ++ t) (spelled_more ls line rest) ∙ sym (append_assoc (l ++ 10 ∷ []) (spelled ls) _)
@@ -93,19 +93,19 @@ unbroken_more (l ∷ ls) line h k = (h.0, unbroken_more ls line h.1 k)
 spelled_push : (lines : List (List ℕ)) (line : List ℕ) → spelled (lines ++ line ∷ []) ≡ spelled lines ++ (line ++ 10 ∷ [])
 spelled_push lines line = sym (append-nil _) ∙ spelled_more lines line [] ∙ ap (λ l. spelled lines ++ l) (append-nil (line ++ 10 ∷ []))
 
--- the bytes that are given are at the front of the bytes that were left
+-- the bytes that an input returns are at the start of its remaining bytes
 after : (rest bytes : List ℕ) (o n : Option (List ℕ)) → o ≡ Some rest → Consumes o n bytes → (left : List ℕ) × (n ≡ Some left) × (rest ≡ bytes ++ left)
 after rest bytes None n e h = cc
 after rest bytes (Some x) None e h = absurd h
 after rest bytes (Some x) (Some y) e h = let same : rest ≡ x = cc in (y, refl, same ∙ h)
 
--- the bytes that are left stay the same
+-- the remaining bytes stay the same
 stays : (rest : List ℕ) (o n : Option (List ℕ)) → o ≡ Some rest → Keeps o n → n ≡ Some rest
 stays rest None n e h = cc
 stays rest (Some x) None e h = absurd h
 stays rest (Some x) (Some y) e h = ap Some h ∙ e
 
--- the held bytes are at the front of the bytes that are left
+-- the held bytes are at the start of the remaining bytes
 held_first : (rest held : List ℕ) (coming : Option (List ℕ)) → prepend_known held coming ≡ Some rest → (more : List ℕ) × (rest ≡ held ++ more)
 held_first rest held None e = cc
 held_first rest held (Some more) e = (more, cc)
@@ -121,7 +121,7 @@ long_line (b ∷ bs) rest h long =
     let first = front_line b bs rest h in
     ((b ∷ bs) ++ first.0, first.1, first.2, omega (arith, long, length-append (b ∷ bs) first.0))
 
--- at the end of an input, all of its text was given
+-- at the end of an input, all of its text was returned
 pub all_given : (text : List ℕ) (lines : List (List ℕ)) (old new : Input) → GivesLines text lines old → GivesBytes old new new.line → IsOver new → new.given ≡ length text
 all_given text lines old new so gives over =
     let left = after so.rest new.line (left_of old) (left_of new) so.left gives.taken in
@@ -167,7 +167,7 @@ end text lines old new (inl so) (gives, over) =
     )
 end text lines old new (inr done) (gives, over) = (done.all, omega (arith, done.counted, gives.counted))
 
--- the text that a reader returned, if it ends with the held bytes
+-- the part of a text that a reader returned, if this part ends with the held bytes
 gave : (text front rest held : List ℕ) (coming : Option (List ℕ)) → text ≡ front ++ rest → prepend_known held coming ≡ Some rest → Consumes (Some text) coming (front ++ held)
 gave text front rest held None split e = cc
 gave text front rest held (Some more) split e = let is : rest ≡ held ++ more = cc in split ∙ ap (λ l. front ++ l) is ∙ sym (append_assoc front held more)
@@ -232,7 +232,7 @@ stop text lines old new TooLong (inl so) (going, told, (line, inr over)) within 
 stop text lines old new Read (inl so) (going, told, (line, failed)) within = (reads_on text lines old new so failed.0 line within, failed.1)
 stop text lines old new fault (inr done) (going, told, stops) within = let no = done.ended in cc
 
--- two parts that a reader may have returned of a text have the same length
+-- two parts of a text that a reader may have returned have the same length
 same_length : (text a b : List ℕ) (coming : Option (List ℕ)) → Consumes (Some text) coming a → Consumes (Some text) coming b → length a ≡ length b
 same_length text a b None h k = absurd h
 same_length text a b (Some rest) h k =

@@ -1,4 +1,4 @@
--- Bytes without bytes outside of messages are messages and blanks, wherever the stream is cut.
+-- A stream without bytes outside messages consists of messages and blanks, wherever the stream is cut into pieces.
 use Rattle.std.proofs.Common.{◌≡◌, ◌↔◌, ℕ, ◌==◌, ◌||◌, ◌⊎◌, inl, inr, Bool, true, false, if◌then◌else◌, List, [], ◌∷◌, ◌++◌, refl, sym, ap, ◌∙◌, append_assoc, arith}
 use Rattle.std.specs.List.{flat_map, AllByRecursion}
 use Rattle.std.proofs.lemmas.Bool.{eqb-true}
@@ -32,7 +32,7 @@ cut-outside true (b ∷ bs) more = by (b == 60) (b == 62) (cut-outside true bs m
     by false true h k = k
     by false false h k = h
 
--- the bytes after a `<`: they have no mark, or a `>` ends the message and the bytes after it are in order
+-- the bytes after a `<`: either they contain no mark, or a `>` ends the message and the bytes after it are in order
 abbrev GoesOn : List ℕ → Bool → Type 0
 GoesOn bytes begun = (inside : List ℕ) × (has_mark inside ≡ false) × (((bytes ≡ inside) × (begun ≡ true)) ⊎ ((rest : List ℕ) × (bytes ≡ inside ++ 62 ∷ rest) × AreMessagesInOrder rest begun))
 
@@ -42,7 +42,7 @@ clear-more b inside begins ends clear = by (b == 60) (b == 62) (has_mark inside)
     by : (x y z : Bool) → x ≡ false → y ≡ false → z ≡ false → ((x || y) || z) ≡ false
     by x y z h k l = rw (h, k, l) refl
 
--- the bytes after a `<`
+-- a `<` and bytes that continue its message are in order
 
 opened : (b : ℕ) (bs : List ℕ) (begun : Bool) → b ≡ 60 → GoesOn bs begun → AreMessagesInOrder (b ∷ bs) begun
 opened b bs begun is (inside, clear, inl (same, begins)) = record {
@@ -76,7 +76,7 @@ longer : (b : ℕ) (bs : List ℕ) (begun : Bool) → (b == 60) ≡ false → (b
 longer b bs begun begins ends (inside, clear, inl (same, is)) = (b ∷ inside, clear-more b inside begins ends clear, inl (ap (λ (x : List ℕ). b ∷ x) same, is))
 longer b bs begun begins ends (inside, clear, inr (rest, same, order)) = (b ∷ inside, clear-more b inside begins ends clear, inr (rest, ap (λ (x : List ℕ). b ∷ x) same, order))
 
--- if no bytes are outside of messages, the bytes are in order, and so are the bytes after a `<`
+-- if no bytes are outside messages, the bytes are in order, and so are the bytes after a `<`
 parsed : (bytes : List ℕ) → ((has_outside false bytes ≡ false → AreMessagesInOrder bytes (begun_after false bytes)) × (has_outside true bytes ≡ false → GoesOn bytes (begun_after true bytes)))
 parsed [] = (λ h. record { parts = []; tail = []; good = tt; last = refl; whole = refl }, λ h. ([], refl, inl (refl, refl)))
 parsed (b ∷ bs) = let again = parsed bs in (outside (b == 60) (is_blank b) (b == 62) refl refl again.0 again.1, inside (b == 60) (b == 62) refl refl again.0 again.1)
@@ -94,7 +94,7 @@ parsed (b ∷ bs) = let again = parsed bs in (outside (b == 60) (is_blank b) (b 
     inside false true begins ends stays goes h = ([], refl, inr (bs, ap (λ (x : ℕ). x ∷ bs) (eqb-true b 62 ends), stays h))
     inside false false begins ends stays goes h = longer b bs (begun_after true bs) begins ends (goes h)
 
--- conversely, if the bytes are in order, no bytes are outside of messages
+-- conversely, if the bytes are in order, no bytes are outside messages
 
 unended : (inside : List ℕ) → has_mark inside ≡ false → has_outside true inside ≡ false
 unended [] none = refl

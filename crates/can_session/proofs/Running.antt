@@ -17,7 +17,7 @@ use Rattle.can_session.specs.Benches.{BenchState, IsCarriedOut, AreCarriedOut, I
 use Rattle.can_session.specs.Runs.{AreAll, AreFirst, IsNextOfInput, ComeBeforeBad, ComeBeforeStop, Ran, EndsRun, EndsLeaving, LeavesAt, EndsAt}
 use Rattle.can_session.proofs.LineLaws.{first_lines, next, end, stop, all_given}
 
--- the input gave these lines, if the bytes of its reader are known
+-- the input returned these lines, if the bytes of its reader are known
 abbrev pub AreOf : Option (List ℕ) → List (List ℕ) → Input → Type 0
 AreOf None lines now = Unit {0}
 AreOf (Some text) lines now = Given text lines now
@@ -33,7 +33,7 @@ pub of_more : (input : Option (List ℕ)) (lines : List (List ℕ)) (old new : I
 of_more None lines old new h k = tt
 of_more (Some text) lines old new h k = next text lines old new h k
 
--- all of the text was given, and it is within the limit
+-- all of the text was returned, and its size is within the limit
 all_within : (text : List ℕ) (lines : List (List ℕ)) (old new : Input) → Given text lines old → FindsEnd old new → IsWithinLimits new → (lines ≡ lines_of_text text) × (length text ≤ 16777216)
 all_within text lines old new h k within = let all = end text lines old new h k in (all.0, omega (arith, all.1, within.bytes))
 
@@ -41,12 +41,12 @@ pub of_all : (input : Option (List ℕ)) (lines : List (List ℕ)) (old new : In
 of_all None lines old new h k within = tt
 of_all (Some text) lines old new h k within = all_within text lines old new h k within
 
--- an input without a fault still has no fault after a line
+-- an input without a fault still has no fault after it returns a line
 pub fine_behind : (old new : Input) → old.fault ≡ None → TakesInputLine old new → new.fault ≡ None
 fine_behind old new fine (going, line, inl gives) = gives.fault ∙ fine
 fine_behind old new fine (going, line, inr last) = last.0.fault ∙ fine
 
--- if an input had no fault, its fault is new
+-- if an input had no fault before, its fault is new
 pub first_fault : (old new : Input) (fault : InputFault) → old.fault ≡ None → Stops fault old new ⊎ Repeats fault old new → Stops fault old new
 first_fault old new fault fine (inl stops) = stops
 first_fault old new fault fine (inr again) = let no = again.0 in cc
@@ -90,17 +90,17 @@ ran_kept {W} contents v lines b after out between new h k =
 pub ran_start : {W : Type 0} (contents : W → Option (List ℕ)) (v : VerdictMap) (b : BenchState) (out : W) → Ran contents v [] b out b out
 ran_start {W} contents v b out = record { text = []; short = All-nil IsInputLine; carried = (refl, refl); wrote = Appends-nil (contents out) }
 
--- the current line is short
+-- the current line is at most 4,096 bytes long
 pub short_line : (old new : Input) → TakesInputLine old new → IsInputLine new.line
 short_line old new (going, line, gives) = line
 
--- a line is read within the limit, and so is its LF or the end of the text
+-- a line and its LF, or the end of the text, are read within the size limit
 within_behind : (text : List ℕ) (lines : List (List ℕ)) (old new : Input) → Given text lines old → TakesInputLine old new → IsWithinLimits new → (length (spelled lines) + length new.line < 16777216) ⊎ (length text ≤ 16777216)
 within_behind text lines old new (inl so) (going, line, inl gives) within = inl (omega (arith, so.counted, gives.counted, within.bytes, length-append new.line (10 ∷ [])))
 within_behind text lines old new (inl so) (going, line, inr last) within = inr (omega (arith, all_given text lines old new so last.0 last.2, within.bytes))
 within_behind text lines old new (inr done) (going, line, gives) within = let no = done.ended in cc
 
--- the next line follows the lines that were given
+-- the next line follows the lines that were returned before
 is_next : (input : Option (List ℕ)) (lines : List (List ℕ)) (old new : Input) → AreOf input lines old → IsWithinLimits new → TakesInputLine old new → IsNextOfInput input lines new.line
 is_next None lines old new h within k = tt
 is_next (Some text) lines old new h within k =
@@ -116,7 +116,7 @@ before_bad : (input : Option (List ℕ)) (lines : List (List ℕ)) (old new : In
 before_bad input lines old new b h within (inl why) = inl (record { next = is_next input lines old new h within why.0; line = short_line old new why.0; refused = why.1 })
 before_bad input lines old new b h within (inr why) = inr (before_stop line.LineTooLong input lines old new h within why)
 
--- a run ends at the next line with the fault of that line
+-- a run stops at the next line with the fault of that line
 pub ends_at : {W : Type 0} (contents : W → Option (List ℕ)) (v : VerdictMap) (input : Option (List ℕ)) (lines : List (List ℕ)) (number : ℕ) (old now : Input) (b mid left : BenchState) (out new : W) (fault : BenchFault)
     → AreOf input lines old → IsWithinLimits now → number ≡ length lines + 1 → Ran contents v lines b out mid new → EndsAt number fault old now mid → LeavesAt fault mid left → EndsLeaving contents v input b out (Err fault) now new left
 ends_at {W} contents v input lines number old now b mid left out new BadConfig h within is ran why leaves = absurd why
@@ -126,7 +126,7 @@ ends_at {W} contents v input lines number old now b mid left out new Read h with
 ends_at {W} contents v input lines number old now b mid left out new Write h within is ran why leaves = tt
 ends_at {W} contents v input lines number old now b mid left out new NoMemory h within is ran why leaves = (lines, mid, of_first input lines old h, ran)
 
--- each line increases the number of bytes given
+-- each line increases the number of bytes returned
 comes_more : (old new : Input) → TakesInputLine old new → old.given + 1 ≤ new.given
 comes_more old new (going, line, inl gives) = let n = gives.counted in let len = length-append new.line (10 ∷ []) in omega (arith, n, len)
 comes_more old new (going, line, inr last) = let n = last.0.counted in let some = last.1 in omega (arith, n, some)
@@ -152,7 +152,7 @@ pub ran_on : {W : Type 0} (contents : W → Option (List ℕ)) (v w : VerdictMap
 ran_on {W} contents v w lines line b mid after out between new same h short (more, carried, wrote) =
     ran_more contents v lines line b mid after out between new more h short (subst (λ (u : VerdictMap). IsCarriedOut u line mid more after) same carried) wrote
 
--- a run ends at the next line; nothing more was written unless the writer failed
+-- a run stops at the next line; nothing more was written unless the writer failed
 pub ends_stop : {W : Type 0} (contents : W → Option (List ℕ)) (v : VerdictMap) (input : Option (List ℕ)) (lines : List (List ℕ)) (number : ℕ) (old now : Input) (b mid left : BenchState) (out between new : W) (fault : BenchFault)
     → AreOf input lines old → IsWithinLimits now → number ≡ length lines + 1 → Ran contents v lines b out mid between
     → EndsAt number fault old now mid × ((fault ≡ Write) ⊎ Keeps (contents between) (contents new)) → LeavesAt fault mid left → EndsLeaving contents v input b out (Err fault) now new left
@@ -169,19 +169,19 @@ first_none : (input : Option (List ℕ)) → AreFirst input []
 first_none None = tt
 first_none (Some text) = (lines_of_text text, refl)
 
--- memory was refused before the first line
+-- the allocation failed before the first line
 pub ends_before : {A W : Type 0} (leaves : A → BenchState → Type 0) (contents : W → Option (List ℕ)) (v : VerdictMap) (input : Option (List ℕ)) (b : BenchState) (out : W) (now : Input)
     → EndsRun leaves contents v input b out (Err NoMemory) now out
 ends_before {A} {W} leaves contents v input b out now = ([], b, first_none input, ran_start contents v b out)
 
--- no bench was made
+-- no bench was created
 pub ends_unmade : {A W : Type 0} (leaves : A → BenchState → Type 0) (contents : W → Option (List ℕ)) (v : VerdictMap) (input : Option (List ℕ)) (b : BenchState) (out : W) (now : Input) (fault : BenchFault)
     → (fault ≡ BadConfig) ⊎ (fault ≡ NoMemory) → (fault ≡ BadConfig → ⊥) → EndsRun leaves contents v input b out (Err fault) now out
 ends_unmade {A} {W} leaves contents v input b out now fault (inl bad) not_bad = absurd (not_bad bad)
 ends_unmade {A} {W} leaves contents v input b out now fault (inr none) not_bad =
     subst (λ (f : BenchFault). EndsRun {A = A} {W = W} leaves contents v input b out (Err f) now out) (sym none) (ends_before leaves contents v input b out now)
 
--- the fault that ends a run does not depend on the run's result or on the bench that it leaves
+-- the fault that stops a run does not depend on the run's result or on the final state of the bench
 pub ends_err : {A W : Type 0} (leaves : A → BenchState → Type 0) (contents : W → Option (List ℕ)) (v : VerdictMap) (input : Option (List ℕ)) (b : BenchState) (out : W) (now : Input) (new : W) (left : BenchState) (fault : BenchFault)
     → EndsLeaving contents v input b out (Err fault) now new left → EndsRun leaves contents v input b out (Err fault) now new
 ends_err {A} {W} leaves contents v input b out now new left BadConfig h = absurd h
@@ -194,7 +194,7 @@ ends_err {A} {W} leaves contents v input b out now new left NoMemory h = h
 pub left_unread : (coming : Option (List ℕ)) → left_of (unread coming) ≡ coming
 left_unread coming = prepend_known-nil coming
 
--- the bytes of the writer show the output of a run
+-- the bytes that the writer received are the output of a run
 ran_in_bytes : {A : Type 0} (v : VerdictMap) (lines : List (List ℕ)) (b after : BenchState) (out new : Vec ℕ A) → Ran (λ (w : Vec ℕ A). Some w.items) v lines b out after new → Ran (λ (bytes : List ℕ). Some bytes) v lines b out.items after new.items
 ran_in_bytes {A} v lines b after out new h = record { text = h.text; short = h.short; carried = h.carried; wrote = h.wrote }
 
@@ -208,6 +208,6 @@ ends_in_bytes {A} v input b left out new now (Err Read) (lines, after, come, ran
 ends_in_bytes {A} v input b left out new now (Err Write) h = h
 ends_in_bytes {A} v input b left out new now (Err NoMemory) (lines, after, come, ran) = (lines, after, come, ran_in_bytes v lines b after out new ran)
 
--- memory was refused before the first line of a text
+-- the allocation failed before the first line of a text
 pub none_taken : (v : VerdictMap) (text : List ℕ) (b : BenchState) (bytes : List ℕ) → EndsLeaving (λ (w : List ℕ). Some w) v (Some text) b bytes (Err NoMemory) (unread (Some text)) bytes b
 none_taken v text b bytes = ([], b, first_none (Some text), ran_start (λ (w : List ℕ). Some w) v b bytes)

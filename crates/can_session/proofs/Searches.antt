@@ -26,7 +26,7 @@ no_position p l e = grind (arith, nat_tests)
 is_ten : (b : ℕ) → is_lf b ≡ true → b ≡ 10
 is_ten b h = grind (arith, nat_tests)
 
--- if two parts have no LF, the joined parts have none
+-- if two lists of bytes have no LF, the joined list has none
 pub both : (a b : List ℕ) → list_any is_lf a ≡ false → list_any is_lf b ≡ false → list_any is_lf (a ++ b) ≡ false
 both a b p q = list_any-append is_lf a b ∙ ap (λ t. t || list_any is_lf b) p ∙ q
 
@@ -57,7 +57,7 @@ found held m searched n within few fits before at inside =
       within = omega arith;
     }
 
--- the bytes that were searched have no LF
+-- the bytes that were searched contain no LF
 pub missed : (held : List ℕ) (m searched : ℕ) → m ≤ length held → searched ≤ m → list_any is_lf (take searched held) ≡ false
     → None ≡ position is_lf (drop searched (take m held)) → list_any is_lf (take m held) ≡ false
 missed held m searched within fits before none =

@@ -9,12 +9,12 @@ use Rattle.can_frame.specs.Sets.{is_in, no_ifaces}
 use Rattle.can_frame.specs.declared.iface.IfaceSet.{IfaceSet}
 use Rattle.can_session.specs.AttemptLines.{names_from, after_commas, member_text, joined_by_commas, name_text, set_text}
 
--- the names that are still to be written
+-- the string of names that is still to be written
 abbrev pub rest_text : Bool → List (List ℕ) → List ℕ
 rest_text true names = joined_by_commas names
 rest_text false names = after_commas names
 
--- the names of the set that are not written yet at index `i`
+-- the names in the set that are not yet written at index `i`
 abbrev pub to_come : List (List ℕ) → IfaceSet → ℕ → List (List ℕ)
 to_come names set i = names_from i (drop i names) set
 
@@ -29,7 +29,7 @@ first_of : (first : Bool) (name : List ℕ) (names : List (List ℕ)) → rest_t
 first_of true name names = refl
 first_of false name names = refl
 
--- for an interface in the set, its name is written, and then the remaining names after commas
+-- for an interface in the set, its name is written, and then the remaining names, each with a comma before it
 member_step : (names : List (List ℕ)) (set : IfaceSet) (i : ℕ) (first : Bool) → i < length names → is_in i set ≡ true
     → rest_text first (to_come names set i) ≡ member_text first (name_text (slice_get names i)) ++ rest_text false (to_come names set (i + 1))
 member_step names set i first lt is =
@@ -80,13 +80,13 @@ run_step names set first (suc n) i lt members =
     ∙ ap (λ (t : List ℕ). member_text first t ++ rest) (sym more)
     ∙ ap (λ (k : ℕ). member_text first (join_with_byte 44 (take (suc (suc n)) (drop i names))) ++ rest_text false (to_come names set k)) there
 
--- no name follows the last one
+-- there are no names after the last one
 past_names : (names : List (List ℕ)) (set : IfaceSet) (i : ℕ) → length names ≤ i → to_come names set i ≡ []
 past_names names set i past =
     let none : drop i names ≡ [] = grind (arith, common_steps, past) in
     ap (λ (ns : List (List ℕ)). names_from i ns set) none
 
--- the text so far and the remaining text are still the whole text after consecutive names were written
+-- after consecutive names were written, the string so far and the remaining string still form the whole string
 pub run_kept : (names : List (List ℕ)) (set : IfaceSet) (i e : ℕ) (first next : Bool) (said more whole : List ℕ)
     → i < e → e ≤ length names → ((k : ℕ) → i ≤ k → k < e → is_in k set ≡ true) → (e < length names → is_in e set ≡ false) → next ≡ false
     → more ≡ said ++ member_text first (join_with_byte 44 (slice_range names i e)) → said ++ rest_text first (to_come names set i) ≡ whole
@@ -111,7 +111,7 @@ run_kept names set i e first next said more whole some within members out last w
     ∙ ap (λ (t : List ℕ). said ++ t) (sym step)
     ∙ h
 
--- the text so far and the remaining text are still the whole text after an interface outside the set
+-- after an interface outside the set, the string so far and the remaining string still form the whole string
 pub other_kept : (names : List (List ℕ)) (set : IfaceSet) (i : ℕ) (first next : Bool) (said more whole : List ℕ)
     → i < length names → is_in i set ≡ false → next ≡ first → more ≡ said
     → said ++ rest_text first (to_come names set i) ≡ whole → more ++ rest_text next (to_come names set (i + 1)) ≡ whole
@@ -126,6 +126,6 @@ none_named i (name ∷ names) =
     let out : is_in i no_ifaces ≡ false = ap (λ (b : ℕ). b == 1) (bit_at_above 0 0 i (omega arith) (omega arith)) in
     rw out (none_named (i + 1) names)
 
--- the text of an empty set
+-- the string for an empty set
 pub none_text : (names : List (List ℕ)) → set_text names no_ifaces ≡ codes "-"
 none_text names = ap joined_by_commas (none_named 0 names)

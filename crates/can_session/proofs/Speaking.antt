@@ -5,7 +5,7 @@ use Rattle.can_dialog.specs.Sessions.{SessionState}
 use Rattle.can_session.specs.BusSteps.{NamedBus}
 use Rattle.can_session.specs.Benches.{BenchState, Speaks, spoken}
 
--- a session did something, and its output was printed
+-- if a session performed a step and its output was printed, the bench performed this step
 pub speaks : (does : SessionState → NamedBus → List ℕ → SessionState → NamedBus → Type 0) (s k : ℕ) (b : BenchState) (old new : SessionState) (said text : List ℕ) (bus : NamedBus)
     → k ≡ s - 1 → slice_get b.sessions k ≡ Some (Some old) → does old b.bus said new bus → text ≡ spoken s said
     → Speaks does s b text (record b { sessions = slice_set b.sessions k (Some new); bus = bus })
@@ -21,7 +21,7 @@ speaks does s k b old new said text bus at there did put =
       after_is = ap (λ (n : ℕ). record b { sessions = slice_set b.sessions n (Some new); bus = bus }) at;
     }
 
--- the text after a session's number and a space ends as the session's output does
+-- the bytes after a session's number and a space are ended with LF, or the line is removed if there are none
 pub ends_spoken : (s n : ℕ) (text begun said after : List ℕ) → begun ≡ decimal s ++ 32 ∷ [] → n ≡ length begun → said ≡ begun ++ text
     → (length said ≡ n → after ≡ []) → (n < length said → after ≡ said ++ 10 ∷ []) → after ≡ spoken s text
 ends_spoken s n [] begun said after front len is none some = none (ap length (is ∙ append-nil begun) ∙ sym len)

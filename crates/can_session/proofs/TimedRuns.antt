@@ -1,4 +1,4 @@
--- Attempts that the bench makes as long as one is due.
+-- Attempts that the bench makes while one is due.
 use Rattle.std.proofs.Common.{◌≡◌, ℕ, ◌≤◌, Bool, false, List, length, Option, Some, None, Result, Ok, Err, is_ok, ◌++◌, sym, ap, subst, ◌∙◌}
 use Rattle.can_fault.specs.Sources.{VerdictMap}
 use Rattle.can_fault.specs.declared.verdict.Verdict.{Verdict}
@@ -42,11 +42,11 @@ refused : (old : Journal) (m : ℕ) (v : Verdict) (outcome : Result Attempt Refu
 refused old m v (Ok a) new is h = cc
 refused old m v (Err why) new is h = full old m v why new h
 
--- an attempt is made, unless the record is full
+-- an attempt is made unless the record is full
 pub stops_full : (v : VerdictMap) (b : BenchState) (text : List ℕ) (after : BenchState) → IsTriedIf false v b text after → IsFull b
 stops_full v b text after (one, none) = refused b.bus.journal _ _ one.outcome one.journal none one.answers
 
--- the outcome of an attempt and its output make one attempt of the bench
+-- the outcome of an attempt and its output together form one attempt of the bench
 
 -- the bus after an attempt
 bus_left : (b bus : NamedBus) (source of_source : Verdict) → source ≡ of_source → bus.names ≡ b.names → bus.plan ≡ plan_left b source → bus.schedule ≡ b.schedule → bus ≡ record b { journal = bus.journal; plan = plan_left b of_source }
@@ -55,7 +55,7 @@ bus_left b bus source of_source is names plan schedule =
     ∙ ap (λ (p : PlanSeen). record { names = b.names; journal = bus.journal; plan = p; schedule = bus.schedule }) (plan ∙ ap (plan_left b) is)
     ∙ ap (λ (s : Option Schedule). record { names = b.names; journal = bus.journal; plan = plan_left b of_source; schedule = s }) schedule
 
--- the decision, the moment and the line of an attempt, in the order in which they are made
+-- the decision, the moment and the line of an attempt, in the order in which they are computed
 pub record Made (verdicts : VerdictMap) (b : BenchState) (bus : NamedBus) (source : Verdict) (decision : Decision) (waits : Bool) (moment : ℕ) (when : Option ℕ) (shown : Option Decision) (outcome : Result Attempt Refusal) : Type 0 where
   pub source_is : source ≡ sourced verdicts b.bus
   pub decision_is : decision ≡ decision_on b.bus source
@@ -69,7 +69,7 @@ pub record Made (verdicts : VerdictMap) (b : BenchState) (bus : NamedBus) (sourc
   pub plan : bus.plan ≡ plan_left b.bus source
   pub schedule : bus.schedule ≡ b.bus.schedule
 
--- the moment is the moment of the next attempt
+-- the moment in `Made` is the moment of the next attempt
 moment_of : (verdicts : VerdictMap) (b : BenchState) (bus : NamedBus) (source : Verdict) (decision : Decision) (waits : Bool) (moment : ℕ) (when : Option ℕ) (shown : Option Decision) (outcome : Result Attempt Refusal) → Made verdicts b bus source decision waits moment when shown outcome
     → moment ≡ next_moment_on b
 moment_of verdicts b bus source decision waits moment when shown outcome h = h.moment_is ∙ ap (λ (w : Bool). attempt_moment b.moment w (head_on b.bus) b.bus.schedule) h.waits_is

@@ -39,8 +39,8 @@ use Rattle.can_session.specs.AttemptLines.{bench_attempt_line}
 
 -- What each line of the bench's input does, and what the bench prints (own choice).
 
--- the state of a bench: the receive queue capacity of its sockets, whether the lines of attempts show faults, the bus,
--- the sessions by number, the current moment, and whether sessions were fed bytes outside messages
+-- the state of a bench: the receive queue capacity of its sockets, whether the lines of attempts show faults, the bus, the sessions
+-- by number, the current moment, and which sessions were fed bytes outside messages
 pub record BenchState : Type 0 where
   pub capacity : ℕ
   pub shows_faults : Bool
@@ -49,40 +49,40 @@ pub record BenchState : Type 0 where
   pub moment : ℕ
   pub ignored : IgnoredInput
 
--- session `s`: `Some None` if it was not started, `None` if there is no session with this number
+-- the state of session `s`: `Some None` if it was not started, `None` if there is no session with this number
 abbrev pub session_at : BenchState → ℕ → Option (Option SessionState)
 session_at b s = slice_get b.sessions (s - 1)
 
--- the bench after session `s` and the bus changed to these states
+-- the bench after the states of session `s` and the bus changed to these states
 abbrev pub with_session : BenchState → ℕ → SessionState → NamedBus → BenchState
 with_session b s st bus = record b { sessions = slice_set b.sessions (s - 1) (Some st); bus = bus }
 
--- the bench after it noted that session `s` was fed these bytes
+-- the bench after it recorded that session `s` was fed these bytes
 abbrev pub with_fed : BenchState → ℕ → List ℕ → BenchState
 with_fed b s bytes = record b { ignored = ignored_then b.ignored s bytes }
 
--- the output of a session as a line: its number, a space, the bytes and LF; nothing if there are no bytes
+-- the output of a session as a line: the session's number, a space, the bytes and LF; nothing if there are no bytes
 abbrev pub spoken : ℕ → List ℕ → List ℕ
 spoken s [] = []
 spoken s (b ∷ bs) = decimal s ++ 32 ∷ (b ∷ bs) ++ 10 ∷ []
 
--- a session is fed a piece
+-- a session is fed a piece of input
 pub record Hears (moment : ℕ) (bytes : List ℕ) (old : SessionState) (p : NamedBus) (text : List ℕ)
     (new : SessionState) (q : NamedBus) : Type 0 where
   pub forgotten : List Bool
   pub turns : Turns BusStep moment old.dialog forgotten (messages_of (old.kept ++ bytes)) p q text new.dialog
   pub keeps : new.kept ≡ kept_of (old.kept ++ bytes)
 
--- a session at this stage is fed a piece; a session that is over ignores it
+-- a session at this stage is fed a piece of input; a session that has ended ignores the piece
 abbrev pub IsFedAt : Stage → ℕ → List ℕ → SessionState → NamedBus → List ℕ → SessionState → NamedBus → Type 0
 IsFedAt Ended moment bytes old p text new q = (new ≡ old) × (text ≡ []) × (q ≡ p)
 IsFedAt _ moment bytes old p text new q = Hears moment bytes old p text new q
 
--- a session is fed a piece at this moment
+-- a session is fed a piece of input at this moment
 abbrev pub IsFed : ℕ → List ℕ → SessionState → NamedBus → List ℕ → SessionState → NamedBus → Type 0
 IsFed moment bytes = λ old. IsFedAt old.dialog.stage moment bytes old
 
--- a session delivers items to its client until none is left
+-- a session delivers items to its client until no item is left
 pub record IsDrained (old : SessionState) (p : NamedBus) (text : List ℕ) (new : SessionState)
     (q : NamedBus) : Type 0 where
   pub items : ℕ
@@ -100,7 +100,7 @@ pub record IsEnded (old : SessionState) (p : NamedBus) (text : List ℕ) (new : 
   pub ends : Plays BusStep (ending old.dialog.stage old.dialog) p q text new.dialog
   pub keeps : new.kept ≡ old.kept
 
--- session `s`, which was started before, does this, and the bench prints its output
+-- session `s`, which was started before, performs this step, and the bench prints its output
 pub record Speaks (does : SessionState → NamedBus → List ℕ → SessionState → NamedBus → Type 0) (s : ℕ)
     (b : BenchState) (text : List ℕ) (after : BenchState) : Type 0 where
   pub old : SessionState
@@ -119,7 +119,7 @@ IsStarted s b text after =
     × (text ≡ spoken s greeting)
     × (after ≡ with_session b s (beginning b.capacity) b.bus)
 
--- the verdict that the source gives to the next attempt
+-- the verdict that the source returns for the next attempt
 abbrev pub sourced : VerdictMap → NamedBus → Verdict
 sourced verdicts bus = verdict_in verdicts (next_number_on bus)
 
@@ -127,17 +127,17 @@ sourced verdicts bus = verdict_in verdicts (next_number_on bus)
 abbrev pub next_moment_on : BenchState → ℕ
 next_moment_on b = attempt_moment b.moment (waits_in_time b.bus) (head_on b.bus) b.bus.schedule
 
--- the moment that the line of an attempt shows: none if the bus has no bit rates
+-- the moment that the line of an attempt shows: no moment if the bus has no bit rates
 abbrev pub said_moment : Option Schedule → ℕ → Option ℕ
 said_moment schedule moment = option_map (λ s. moment) schedule
 
--- the decision that the line of an attempt shows: none if faults are not shown
+-- the decision that the line of an attempt shows: no decision if faults are not shown
 abbrev pub said_decision : Bool → Decision → Option Decision
 said_decision true decision = Some decision
 said_decision false decision = None
 
--- the bench after an attempt with this verdict and outcome took its time. `waits` says whether an interface waited for
--- its restart before the attempt. A refused attempt takes no time.
+-- the bench after time passed for an attempt with this verdict and outcome. `waits` says whether an interface waited for its
+-- restart before the attempt. A refused attempt takes no time.
 abbrev pub passed : Bool → Verdict → Result Attempt Refusal → BenchState → BenchState
 passed waits v (Ok a) b = record b {
   moment = moment_left b.moment (schedule_left b.moment waits v a b.bus.schedule);
@@ -145,7 +145,7 @@ passed waits v (Ok a) b = record b {
 }
 passed waits v (Err why) b = b
 
--- the bench makes an attempt, with the verdict that the source and the plan give to the next attempt
+-- the bench makes an attempt, with the verdict that the source and the plan decide for the next attempt
 pub record IsTried (verdicts : VerdictMap) (b : BenchState) (text : List ℕ) (after : BenchState) : Type 0 where
   pub outcome : Result Attempt Refusal
   pub journal : Journal
@@ -157,7 +157,7 @@ pub record IsTried (verdicts : VerdictMap) (b : BenchState) (text : List ℕ) (a
     bus = record b.bus { journal = journal; plan = plan_left b.bus (sourced verdicts b.bus) };
   })
 
--- the bench makes an attempt, or the attempt is refused, as the flag says
+-- the bench makes an attempt if the flag is true; otherwise the attempt is refused
 abbrev pub IsTriedIf : Bool → VerdictMap → BenchState → List ℕ → BenchState → Type 0
 IsTriedIf is_made verdicts b text after = (one : IsTried verdicts b text after) × (is_ok one.outcome ≡ is_made)
 
@@ -166,7 +166,7 @@ abbrev pub is_attempt_due : ℕ → BenchState → Bool
 is_attempt_due moment b =
     begins_before b.moment moment b.bus.schedule && (is_some (head_on b.bus) || waits_in_time b.bus)
 
--- the bench makes exactly this many attempts, one after another, each of which is due
+-- the bench makes exactly this many attempts, one after another, and each attempt is due
 abbrev pub AreTried : VerdictMap → ℕ → ℕ → BenchState → List ℕ → BenchState → Type 0
 AreTried verdicts moment zero b text after = (text ≡ []) × (after ≡ b)
 AreTried verdicts moment (suc n) b text after =
@@ -180,13 +180,13 @@ AreTried verdicts moment (suc n) b text after =
 abbrev pub IsFull : BenchState → Type 0
 IsFull b = b.bus.journal.config.limit ≤ length b.bus.journal.history
 
--- no further attempt is due; or an attempt is due but the record is full, and the bench prints the refusal
+-- no other attempt is due; or an attempt is due but the record is full, and the bench prints the refusal
 abbrev pub NoneFollows : VerdictMap → ℕ → BenchState → List ℕ → BenchState → Type 0
 NoneFollows verdicts moment b text after =
     ((is_attempt_due moment b ≡ false) × (text ≡ []) × (after ≡ b))
     ⊎ ((is_attempt_due moment b ≡ true) × IsFull b × IsTried verdicts b text after)
 
--- the bench makes attempts as long as one is due before this moment
+-- the bench makes attempts while one is due before this moment
 pub record AreMade (verdicts : VerdictMap) (moment : ℕ) (b : BenchState) (text : List ℕ)
     (after : BenchState) : Type 0 where
   pub count : ℕ
@@ -197,8 +197,8 @@ pub record AreMade (verdicts : VerdictMap) (moment : ℕ) (b : BenchState) (text
   pub ends : NoneFollows verdicts moment mid last after
   pub said : text ≡ before ++ last
 
--- the bench makes all attempts that are due before this moment, and then sets this moment. The bus has bit rates, and
--- the moment set before is no later.
+-- the bench makes all attempts that are due before this moment, and then sets its current moment to this one. The bus has bit
+-- rates, and the moment that was set before is not later.
 pub record IsRun (verdicts : VerdictMap) (moment : ℕ) (b : BenchState) (text : List ℕ)
     (after : BenchState) : Type 0 where
   pub timed : b.bus.schedule ≢ None
@@ -207,7 +207,7 @@ pub record IsRun (verdicts : VerdictMap) (moment : ℕ) (b : BenchState) (text :
   pub made : AreMade verdicts moment b text over
   pub after_is : after ≡ record over { moment = moment }
 
--- the bench cannot run to this moment: its bus has no bit rates, or a later moment is set
+-- the bench cannot run to this moment: its bus has no bit rates, or the current moment is later
 abbrev pub IsWrongRun : ℕ → BenchState → Type 0
 IsWrongRun moment b = (b.bus.schedule ≡ None) ⊎ (moment < b.moment)
 
@@ -228,13 +228,13 @@ abbrev pub change_line : Result (Unit {0}) Refusal → List ℕ
 change_line (Ok done) = []
 change_line (Err why) = codes "record full\n"
 
--- whether the line is good: the bus made the change, or its record is full
+-- whether the line is valid: the bus made the change, or its record is full
 abbrev pub is_good_change : Result (Unit {0}) Refusal → Bool
 is_good_change (Ok done) = true
 is_good_change (Err RecordFull) = true
 is_good_change (Err why) = false
 
--- the bus handles this event, which takes the named interface down or restarts it, at the current moment
+-- the bus handles the event that takes the named interface down or restarts it, at the current moment
 pub record IsChanged (event_of : ℕ → ℕ → Event) (name : List ℕ) (b : BenchState) (text : List ℕ)
     (after : BenchState) : Type 0 where
   pub iface : ℕ
@@ -246,7 +246,7 @@ pub record IsChanged (event_of : ℕ → ℕ → Event) (name : List ℕ) (b : B
   pub text_is : text ≡ change_line outcome
   pub after_is : after ≡ record b { bus = record b.bus { journal = journal } }
 
--- the bus refuses this event, and the reason is not a full record
+-- the bus refuses the event, and the reason is not a full record
 pub record IsDenied (event_of : ℕ → ℕ → Event) (name : List ℕ) (b : BenchState) : Type 0 where
   pub iface : ℕ
   pub why : Refusal
@@ -259,7 +259,7 @@ pub record IsDenied (event_of : ℕ → ℕ → Event) (name : List ℕ) (b : Be
 abbrev pub IsWrongChange : (ℕ → ℕ → Event) → List ℕ → BenchState → Type 0
 IsWrongChange event_of name b = (place_of b.bus.names name ≡ None) ⊎ IsDenied event_of name b
 
--- the effect of a good line: the bench before it, its output, and the bench after it
+-- the effect of a valid line: the bench before the line, its output, and the bench after it
 abbrev pub Does : VerdictMap → Effect → BenchState → List ℕ → BenchState → Type 0
 Does verdicts Does_nothing b text after = (text ≡ []) × (after ≡ b)
 Does verdicts (Sets moment) b text after = (text ≡ []) × (after ≡ record b { moment = moment })

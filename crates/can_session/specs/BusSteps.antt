@@ -30,7 +30,7 @@ use Rattle.can_dialog.specs.Calls.Call.{Names, Attach, Open, Close, SetFilters, 
 use Rattle.can_dialog.specs.Calls.Call.{Receive, Restart, Attempt, CountsOfSocket, CountsOfIface}
 use Rattle.can_dialog.specs.Calls.Call.{CountersOfIface, LoadAt, Inject, CountsRules, EndsRules, Down}
 
--- A bus as a port: each call is one event of the bus, except for look-ups and calls about rules.
+-- A bus as a port: each call is one event on the bus, except for look-ups and calls about rules.
 
 -- the names of the interfaces, the bus, its fault plan, and the schedule of its attempts if it has bit rates
 pub record NamedBus : Type 0 where
@@ -47,11 +47,11 @@ next_number_on bus = length (tape bus.journal.history)
 abbrev pub head_on : NamedBus → Option (ℕ × CanFrame)
 head_on bus = next_head bus.journal.config bus.journal.history
 
--- an attempt that tries no frame takes time: the bus has bit rates, and an interface waits for its restart
+-- an attempt without a frame takes time: the bus has bit rates, and an interface waits for its restart
 abbrev pub waits_in_time : NamedBus → Bool
 waits_in_time bus = is_some bus.schedule && is_counting bus.journal.config bus.journal.history
 
--- the verdict of the next attempt, if the source gives it this verdict
+-- the verdict of the next attempt, if the source returns this verdict
 abbrev pub verdict_on : NamedBus → Verdict → Verdict
 verdict_on bus source = given source bus.plan (next_number_on bus) (head_on bus)
 
@@ -63,17 +63,17 @@ decision_on bus source = decided_for source bus.plan (next_number_on bus) (head_
 abbrev pub plan_left : NamedBus → Verdict → PlanSeen
 plan_left bus source = plan_after source bus.plan (next_number_on bus) (head_on bus)
 
--- the reply of a bus in the form that a port returns
+-- a reply of the bus, converted into a reply of a port
 abbrev pub passed_on : {A : Type 0} → Result A Refusal → Result A PortRefusal
 passed_on (Ok a) = Ok a
 passed_on (Err why) = Err (port.Bus why)
 
--- the interface at this index among the names, or a refusal if there is no index
+-- the interface with this index in the list of names, or a refusal if there is no index
 abbrev pub interface_at : Option ℕ → Result ℕ PortRefusal
 interface_at None = Err (port.Bus refusal.NoInterface)
 interface_at (Some iface) = Ok iface
 
--- the error counters in the counts of an interface: 0/0 if there is no such interface
+-- the error counters in the statistics of an interface: 0/0 if there is no such interface
 abbrev pub counters_in : Option IfaceStats → ErrorCounts
 counters_in None = at_start
 counters_in (Some counts) = counts.counters

@@ -26,19 +26,19 @@ lines_of_text (b ∷ bs) = if is_lf b then [] ∷ lines_of_text bs else with_byt
 abbrev pub whole_lines : List ℕ → List (List ℕ)
 whole_lines text = take (count_by is_lf text) (lines_of_text text)
 
--- the bytes may be a line: they have no LF, and there are at most 4,096 bytes
+-- the bytes may be a line: there is no LF and there are at most 4,096 bytes
 pub record IsInputLine (bytes : List ℕ) : Type 0 where
   pub unbroken : list_any is_lf bytes ≡ false
   pub short : length bytes ≤ 4096
 
--- the text begins with a line that is too long: its first 4,097 bytes have no LF
+-- the text begins with a line that is too long: its first 4,097 bytes contain no LF
 pub record BeginsTooLong (text : List ℕ) : Type 0 where
   pub long : 4096 < length text
   pub unbroken : list_any is_lf (take 4097 text) ≡ false
 
--- the state of an input that is read line by line: the current line, the number of bytes given as lines with their LFs,
--- the bytes that were read but not given yet, the bytes that the reader still has, if they are known, the number of
--- reads that returned bytes, whether the input has ended, and the fault that ended it, if any
+-- the state of an input that is read line by line: the current line, the number of bytes returned as lines with their LFs, the
+-- bytes that were read but not returned yet, the bytes that the reader still has, if they are known, the number of reads that
+-- returned bytes, whether the input has ended, and the fault that ended it, if any
 pub record Input : Type 0 where
   pub line : List ℕ
   pub given : ℕ
@@ -52,19 +52,19 @@ pub record Input : Type 0 where
 abbrev pub unread : Option (List ℕ) → Input
 unread coming = record { line = []; given = 0; held = []; coming = coming; reads = 0; ended = false; fault = None }
 
--- the input after it gave the next line, which has `line` bytes without its LF and `width` bytes with it
+-- the input after it returned the next line, which has `line` bytes without its LF and `width` bytes with it
 abbrev pub after_line : ℕ → ℕ → Input → Input
 after_line line width i = record i { line = take line i.held; given = i.given + width; held = drop width i.held }
 
--- the input after it gave all held bytes as the last line
+-- the input after it returned all held bytes as the last line
 abbrev pub after_last : Input → Input
 after_last i = record i { line = i.held; given = i.given + length i.held; held = []; ended = true }
 
--- the bytes that are not given yet, if they are known
+-- the bytes that are not returned yet, if they are known
 abbrev pub left_of : Input → Option (List ℕ)
 left_of i = prepend_known i.held i.coming
 
--- the input is within its limits: each counted read returned at least one byte, and no bytes are left after the end
+-- the input is within its limits: each counted read returned at least one byte, and no bytes remain after the end
 pub record IsWithinLimits (i : Input) : Type 0 where
   pub bytes : i.given + length i.held ≤ 16777216
   pub reads : i.reads ≤ i.given + length i.held
@@ -76,45 +76,44 @@ pub record IsOver (i : Input) : Type 0 where
   pub held : i.held ≡ []
   pub coming : IsAtEnd i.coming
 
--- the number of bytes read from an input: those given as lines and those still held
+-- the number of bytes read from an input: bytes returned as lines and bytes still held
 abbrev pub came : Input → ℕ
 came i = i.given + length i.held
 
--- each counted read between the two states returned at least one byte
+-- each read counted between the two states returned at least one byte
 pub record Counts (old new : Input) : Type 0 where
   pub more : old.reads ≤ new.reads
   pub bytes : new.reads + came old ≤ old.reads + came new
 
--- the input gives these bytes, which were left, without a fault
+-- the input returns these remaining bytes without a fault
 pub record GivesBytes (old new : Input) (bytes : List ℕ) : Type 0 where
   pub taken : Consumes (left_of old) (left_of new) bytes
   pub counted : new.given ≡ old.given + length bytes
   pub reads : Counts old new
   pub fault : new.fault ≡ old.fault
 
--- the input had not ended, and its current line is now the next one: the line ended with LF, or it is the last and not
--- empty
+-- the input had not ended, and the next line is now its current line: the line ended with LF, or it is the last line and not empty
 abbrev pub TakesInputLine : Input → Input → Type 0
 TakesInputLine old new =
     (old.ended ≡ false)
     × IsInputLine new.line
     × (GivesBytes old new (new.line ++ 10 ∷ []) ⊎ (GivesBytes old new new.line × (0 < length new.line) × IsOver new))
 
--- no line was left, and the input has ended
+-- no line remained, and the input has ended
 abbrev pub FindsEnd : Input → Input → Type 0
 FindsEnd old new = GivesBytes old new [] × IsOver new
 
--- whether a next line was found, and what follows from that
+-- whether a next line was found, and the resulting state
 abbrev pub ComesNext : Bool → Input → Input → Type 0
 ComesNext found old new = MatchBool found (TakesInputLine old new) (FindsEnd old new)
 
--- the input gives no bytes: the bytes that are left stay the same
+-- the input returns no bytes: the remaining bytes stay the same
 pub record Waits (old new : Input) : Type 0 where
   pub same : Keeps (left_of old) (left_of new)
   pub given : new.given ≡ old.given
   pub reads : Counts old new
 
--- the reader returned one byte more than an input may have
+-- the reader returned one byte more than an input may contain
 pub record Overruns (old new : Input) : Type 0 where
   pub byte : ℕ
   pub taken : Consumes (left_of old) new.coming (new.held ++ byte ∷ [])
@@ -122,13 +121,13 @@ pub record Overruns (old new : Input) : Type 0 where
   pub reads : Counts old new
   pub full : new.given + length new.held ≡ 16777216
 
--- a read was not made or failed: the limit on reads is reached, the input has one byte too many, or the reader failed
+-- a read was not made or failed: the limit on reads was reached, the input has one byte too many, or the reader failed
 abbrev pub Fails : InputFault → Input → Input → Type 0
 Fails LineTooLong old new = ⊥
 Fails TooLong old new = (Waits old new × (new.reads ≡ 16777216)) ⊎ Overruns old new
 Fails Read old new = Waits old new × (new.reads < 16777216)
 
--- why there is no next line: the held bytes begin with a line that is too long, or they have no LF and no more bytes
+-- the reason why there is no next line: the held bytes begin with a line that is too long, or they contain no LF and no more bytes
 -- can be read
 abbrev pub Halts : InputFault → Input → Input → Type 0
 Halts LineTooLong old new = Waits old new × BeginsTooLong new.held
@@ -142,7 +141,7 @@ Stops fault old new = (old.ended ≡ false) × (new.fault ≡ Some fault) × Hal
 abbrev pub Repeats : InputFault → Input → Input → Type 0
 Repeats fault old new = (old.fault ≡ Some fault) × (new ≡ old)
 
--- one read adds this many bytes to the end of the held bytes
+-- one read appends this many bytes to the held bytes
 pub record Fills (old new : Input) (count : ℕ) : Type 0 where
   pub waits : Waits old new
   pub bytes : List ℕ
@@ -157,7 +156,7 @@ pub record Fills (old new : Input) (count : ℕ) : Type 0 where
 abbrev pub spelled : List (List ℕ) → List ℕ
 spelled lines = flat_map (λ line. line ++ 10 ∷ []) lines
 
--- the input gave these lines of a text, each ended by LF, and the other lines are left
+-- the input returned these lines of a text, each ended by LF, and the rest of the text remains
 pub record GivesLines (text : List ℕ) (lines : List (List ℕ)) (now : Input) : Type 0 where
   pub unbroken : AllByRecursion (λ line. list_any is_lf line ≡ false) lines
   pub rest : List ℕ
@@ -165,18 +164,18 @@ pub record GivesLines (text : List ℕ) (lines : List (List ℕ)) (now : Input) 
   pub split : text ≡ spelled lines ++ rest
   pub counted : now.given ≡ length (spelled lines)
 
--- the input gave all lines of a text and has ended
+-- the input returned all lines of a text and has ended
 pub record HasEnded (text : List ℕ) (lines : List (List ℕ)) (now : Input) : Type 0 where
   pub ended : now.ended ≡ true
   pub all : lines ≡ lines_of_text text
   pub counted : now.given ≡ length text
 
--- the lines that an input gave of a text, up to and including its current line
+-- the lines of a text that an input returned, up to and including its current line
 abbrev pub Given : List ℕ → List (List ℕ) → Input → Type 0
 Given text lines now = GivesLines text lines now ⊎ HasEnded text lines now
 
--- the reader returned the first part of a text, at most 16,777,216 bytes, and still has the rest. The input gave all
--- lines that end with LF in this part, and at most 4,096 bytes follow them.
+-- the reader returned the first part of a text, at most 16,777,216 bytes, and still has the rest. The input returned all lines that
+-- end with LF in this part, and at most 4,096 bytes follow these lines.
 pub record ReadsOn (text : List ℕ) (lines : List (List ℕ)) (now : Input) : Type 0 where
   pub read : List ℕ
   pub taken : Consumes (Some text) now.coming read
@@ -190,8 +189,8 @@ pub record ReadsOut (text : List ℕ) (lines : List (List ℕ)) (now : Input) : 
   pub full : length on.read ≡ 16777216
   pub reads : now.reads ≡ 16777216
 
--- the reader returned the first 16,777,216 bytes of a text and one more. The input gave all lines that end with LF
--- before that byte, and at most 4,096 bytes follow them.
+-- the reader returned the first 16,777,216 bytes of a text and one more byte. The input returned all lines that end with LF before
+-- that byte, and at most 4,096 bytes follow these lines.
 pub record ReadsOver (text : List ℕ) (lines : List (List ℕ)) (now : Input) : Type 0 where
   pub read : List ℕ
   pub byte : ℕ
@@ -200,7 +199,7 @@ pub record ReadsOver (text : List ℕ) (lines : List (List ℕ)) (now : Input) :
   pub whole : lines ≡ whole_lines read
   pub short : length read ≤ length (spelled lines) + 4096
 
--- the line after these is too long, and its 4,097th byte is within the size limit of an input
+-- the line after these lines is too long, and its 4,097th byte is within the size limit of an input
 pub record ComesToLong (text : List ℕ) (lines : List (List ℕ)) : Type 0 where
   pub line : List ℕ
   pub more : List (List ℕ)
@@ -208,8 +207,7 @@ pub record ComesToLong (text : List ℕ) (lines : List (List ℕ)) : Type 0 wher
   pub long : 4096 < length line
   pub within : length (spelled lines) + 4097 ≤ 16777216
 
--- the lines of a text that were given before a fault: the next line is too long, the size limit is reached, or the
--- reader failed
+-- the lines of a text that were returned before a fault: the next line is too long, the size limit is reached, or the reader failed
 abbrev pub StopsAfter : InputFault → List ℕ → List (List ℕ) → Input → Type 0
 StopsAfter LineTooLong text lines now = ComesToLong text lines
 StopsAfter TooLong text lines now = ReadsOut text lines now ⊎ ReadsOver text lines now

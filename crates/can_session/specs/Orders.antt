@@ -43,7 +43,7 @@ effect_of (Up name) = BringsUp name.now
 abbrev pub parted : ℕ → List ℕ → Option (List ℕ × List ℕ)
 parted mark text = option_map (λ n. (take n text, drop (n + 1) text)) (position (λ b. b == mark) text)
 
--- the number, if it is a session number: 1 to 64
+-- the session number, if this number is from 1 to 64
 abbrev pub session_number : ℕ → Option ℕ
 session_number n = if nat_le 1 n && nat_le n 64 then Some n else None
 
@@ -51,7 +51,7 @@ session_number n = if nat_le 1 n && nat_le n 64 then Some n else None
 abbrev pub session_of : List ℕ → Option ℕ
 session_of word = if slice_index word 0 == 48 then None else option_and_then session_number (number_in 10 2 word)
 
--- the effect of `feed`, given the session number and the bytes after the space
+-- the effect of `feed`, given the session number and the bytes after the next space
 abbrev pub fed_by : List ℕ × List ℕ → Option Effect
 fed_by (session, bytes) = option_map (λ s. Feeds s bytes) (session_of session)
 

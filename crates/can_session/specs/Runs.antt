@@ -24,16 +24,16 @@ use Rattle.can_session.specs.Benches.{BenchState, AreCarriedOut, IsCarriedOut, I
 
 -- Running the bench over an input (own choice).
 
--- the parts from which a bench may be made: a bus within its limits, a name for each interface, and a receive queue
--- capacity within its limits
+-- the values from which a bench may be created: a bus within its limits, a name for each interface, and a receive queue capacity
+-- within its limits
 pub record IsBench (names : List (List ℕ)) (config : BusConfig) (capacity : ℕ) : Type 0 where
   pub bus : IsConfig config
   pub named : length names ≡ config.ifaces
   pub some_items : 1 ≤ capacity
   pub few_items : capacity ≤ max_rx_capacity
 
--- a bench before its first line, with a fault plan, and with bit rates if its bus has them; the flag says whether lines
--- of attempts show faults
+-- a bench before its first line, with a fault plan, and with bit rates if its bus has them; the flag says whether the lines of
+-- attempts show faults
 abbrev pub at_start_with : Bool → PlanSeen → Option BusTiming → List (List ℕ) → BusConfig → ℕ → BenchState
 at_start_with shows_faults plan timing names config capacity = record {
   capacity = capacity;
@@ -53,7 +53,7 @@ at_start_with shows_faults plan timing names config capacity = record {
 abbrev pub new_bench : Bool → Option BusTiming → List (List ℕ) → BusConfig → ℕ → BenchState
 new_bench shows_faults timing names config capacity = at_start_with shows_faults no_plan timing names config capacity
 
--- If the bytes of the reader are not known (`None`), nothing is said about the lines.
+-- If the bytes of the reader are not known (`None`), the lines are not specified.
 
 -- these are all the lines of the input, which has at most 16,777,216 bytes
 abbrev pub AreAll : Option (List ℕ) → List (List ℕ) → Type 0
@@ -65,8 +65,8 @@ abbrev pub AreFirst : Option (List ℕ) → List (List ℕ) → Type 0
 AreFirst None lines = Unit {0}
 AreFirst (Some text) lines = (more : List (List ℕ)) × (lines_of_text text ≡ lines ++ more)
 
--- these lines and then this line are the first lines of the input; the LF of this line, or the end of the input, is
--- within the size limit
+-- these lines and then this line are the first lines of the input; the LF of the last line, or the end of the input, is within the
+-- size limit
 abbrev pub IsNextOfInput : Option (List ℕ) → List (List ℕ) → List ℕ → Type 0
 IsNextOfInput None lines line = Unit {0}
 IsNextOfInput (Some text) lines line =
@@ -81,7 +81,7 @@ pub record ComesToRefused (input : Option (List ℕ)) (lines : List (List ℕ)) 
   pub line : IsInputLine now.line
   pub refused : IsRefused (order_of now.line) b
 
--- the input gave these lines before this fault
+-- the input returned these lines before this fault
 abbrev pub ComeBeforeStop : InputFault → Option (List ℕ) → List (List ℕ) → Input → Type 0
 ComeBeforeStop fault None lines now = now.fault ≡ Some fault
 ComeBeforeStop fault (Some text) lines now = (now.fault ≡ Some fault) × StopsAfter fault text lines now
@@ -98,8 +98,8 @@ pub record Ran {W : Type 0} (contents : W → Option (List ℕ)) (verdicts : Ver
   pub carried : AreCarriedOut verdicts lines b text after
   pub wrote : Appends (contents out) (contents new) text
 
--- how a run over an input ends and which lines it carried out: all lines, or the lines before a fault. The output
--- before a fault of the writer is not specified.
+-- how a run over an input ends and which lines it carried out: all lines, or the lines before a fault. The output before a fault of
+-- the writer is not specified.
 abbrev pub EndsRun : {A W : Type 0} → (A → BenchState → Type 0) → (W → Option (List ℕ)) → VerdictMap → Option (List ℕ)
     → BenchState → W → Result A BenchFault → Input → W → Type 0
 EndsRun {A} {W} leaves contents verdicts input b out (Ok a) now new =
@@ -125,15 +125,15 @@ EndsRun {A} {W} leaves contents verdicts input b out (Err NoMemory) now new =
 EndsRun {A} {W} leaves contents verdicts input b out (Err Write) now new = Unit {0}
 EndsRun {A} {W} leaves contents verdicts input b out (Err BadConfig) now new = ⊥
 
--- the bench that a fault at a line leaves, compared with the bench before that line; not specified for faults of the
--- writer or of memory
+-- the bench after a fault at a line, compared with the bench before that line; not specified for faults of the writer or a lack of
+-- memory
 abbrev pub LeavesAt : BenchFault → BenchState → BenchState → Type 0
 LeavesAt (BadLine n) b left = IsLeftBy b left
 LeavesAt TooLong b left = left ≡ b
 LeavesAt Read b left = left ≡ b
 LeavesAt _ b left = Unit {0}
 
--- how a run over an input ends, and which bench it leaves
+-- how a run over an input ends, and the final state of its bench
 abbrev pub EndsLeaving : {W : Type 0} → (W → Option (List ℕ)) → VerdictMap → Option (List ℕ) → BenchState → W
     → Result (Unit {0}) BenchFault → Input → W → BenchState → Type 0
 EndsLeaving {W} contents verdicts input b out (Ok done) now new left =
@@ -161,29 +161,29 @@ abbrev pub TakesLines : VerdictMap → List ℕ → BenchState → List ℕ → 
 TakesLines verdicts text b old outcome left new =
     (now : Input) × EndsLeaving (λ (bytes : List ℕ). Some bytes) verdicts (Some text) b old outcome now new left
 
--- this is the record of the bench's bus
+-- `r` is the record of the bench's bus
 pub record IsRecordOfBench (r : Kept) (b : BenchState) : Type 0 where
   pub config : r.config ≡ b.bus.journal.config
   pub history : r.history ≡ b.bus.journal.history
 
--- how a run that leaves a record ends, at any position in its input
+-- how a run that returns a record ends, at any position in its input
 abbrev pub EndsOver : {W : Type 0} → (W → Option (List ℕ)) → VerdictMap → Option (List ℕ) → BenchState → W
     → Result Kept BenchFault → W → Type 0
 EndsOver contents verdicts input b out result new =
     (now : Input) × EndsRun IsRecordOfBench contents verdicts input b out result now new
 
--- after a run over all lines of an input, `ignored` says which sessions were fed bytes outside of messages
+-- after a run over all lines of an input, `ignored` says which sessions were fed bytes outside messages
 abbrev pub NotesFed :
     {W : Type 0} → (W → Option (List ℕ)) → VerdictMap → Option (List ℕ) → BenchState → W → IgnoredInput → W → Type 0
 NotesFed contents verdicts input b out ignored new =
     (now : Input)
     × EndsRun (λ (_ : Unit {0}) after. ignored ≡ after.ignored) contents verdicts input b out (Ok tt) now new
 
--- the faults for which a bench cannot be made
+-- the faults because of which a bench cannot be created
 abbrev pub IsStartFault : BenchFault → Type 0
 IsStartFault fault = (fault ≡ BadConfig) ⊎ (fault ≡ NoMemory)
 
--- the bench carries out the next line, and the writer accepts its output; or no line is left, and nothing changes
+-- the bench carries out the next line, and the writer accepts its output; or no line remains, and nothing changes
 abbrev pub StepsOn : {W : Type 0} → (W → Option (List ℕ)) → VerdictMap → Bool → Input → Input → BenchState
     → BenchState → W → W → Type 0
 StepsOn {W} contents verdicts more old new b after out wrote =
@@ -193,13 +193,13 @@ StepsOn {W} contents verdicts more old new b after out wrote =
     × Appends (contents out) (contents wrote) text)
     (FindsEnd old new × (after ≡ b) × Keeps (contents out) (contents wrote))
 
--- the bench's fault for an input fault at the line with this number
+-- the bench fault that reports an input fault at the line with this number
 abbrev pub input_fault_of : ℕ → InputFault → BenchFault
 input_fault_of number line.LineTooLong = BadLine number
 input_fault_of number line.TooLong = TooLong
 input_fault_of number line.Read = Read
 
--- how a run ends at the next line, which has this number
+-- how a run stops at the next line, which has this number
 abbrev pub EndsAt : ℕ → BenchFault → Input → Input → BenchState → Type 0
 EndsAt number (BadLine n) old new b =
     (n ≡ number) × ((TakesInputLine old new × IsRefused (order_of new.line) b) ⊎ Stops line.LineTooLong old new)

@@ -1,4 +1,4 @@
-//! Writes the fault of an attempt, and the rule that gave the fault, into the attempt's line.
+//! Formats the fault of an attempt, and the rule that caused the fault, for the attempt's line.
 ghost use Rattle.std.specs.Prelude.{◌≡◌, ◌++◌, OnOk};
 ghost use Rattle.can_fault.specs.Grammar.{kind_word};
 ghost use Rattle.can_session.specs.AttemptLines.{verdict_text, fault_text, rule_text, decision_text};
@@ -10,7 +10,7 @@ use can_frame::{IfaceSet, Names};
 use can_rules::Decision;
 use std::alloc::AllocError;
 
-/// Adds the fault of an attempt and the rule that gave the fault, if there is a decision to show.
+/// Appends the fault of an attempt and the rule that caused the fault, if there is a decision to show.
 #[inline(always)]
 pub fn put_decision(
     said: &mut Vec<u8>,
@@ -46,7 +46,7 @@ fn put_fault(said: &mut Vec<u8>, names: &Names, verdict: Verdict) -> Result<(), 
     put_verdict(said, names, verdict)
 }
 
-// Adds a verdict in the words that scripts use.
+// Appends a verdict in the words that scripts use.
 fn put_verdict(said: &mut Vec<u8>, names: &Names, verdict: Verdict) -> Result<(), AllocError>
     ensures { OnOk result (said.new.items ≡ said.old.items ++ verdict_text names.now verdict) }
 {

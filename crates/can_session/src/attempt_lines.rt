@@ -10,8 +10,8 @@ use can_frame::{Iface, IfaceSet, Moment, Names, Text};
 use can_rules::Decision;
 use std::alloc::AllocError;
 
-/// Adds the line of an attempt. The line includes the moment of the attempt, its fault and the rule that gave the fault, if these
-/// are given.
+/// Appends the line of an attempt. The line includes the moment of the attempt, its fault and the rule that caused the fault, if
+/// these are given.
 pub fn put_attempt(
     said: &mut Vec<u8>,
     names: &Names,
@@ -71,7 +71,7 @@ fn put_end(
     said.extend_from_slice(b"\n")
 }
 
-// Adds the interfaces that were restarted, and the moment.
+// Appends the names of the restarted interfaces, and the moment of the attempt.
 fn put_after(
     said: &mut Vec<u8>,
     names: &Names,
@@ -84,7 +84,7 @@ fn put_after(
     put_when(said, when)
 }
 
-// Adds the moment of an attempt, if it is given.
+// Appends the moment of an attempt, if it is given.
 fn put_when(said: &mut Vec<u8>, when: Option<Moment>) -> Result<(), AllocError>
     ensures { OnOk result (said.new.items ≡ said.old.items ++ when_text when) }
 {
@@ -117,7 +117,7 @@ fn put_ending(said: &mut Vec<u8>, names: &Names, tried: &Tried) -> Result<(), Al
     put_set(said, names, tried.off)
 }
 
-// Adds the names of the interfaces that were restarted, if there are any.
+// Appends the names of the interfaces that were restarted, if there are any.
 fn put_restarted(said: &mut Vec<u8>, names: &Names, restarted: IfaceSet) -> Result<(), AllocError>
     ensures { OnOk result (said.new.items ≡ said.old.items ++ restarted_text names.now restarted) }
 {
@@ -138,7 +138,8 @@ fn put_name(said: &mut Vec<u8>, names: &Names, iface: Iface) -> Result<(), Alloc
     }
 }
 
-/// Adds the names of the interfaces in a set in ascending order, joined by commas, or a dash if there are none.
+/// Appends the names of the interfaces in a set in ascending order of interface number, joined by commas. Appends a dash if the set
+/// is empty.
 pub fn put_set(said: &mut Vec<u8>, names: &Names, set: IfaceSet) -> Result<(), AllocError>
     ensures { OnOk result (said.new.items ≡ said.old.items ++ set_text names.now set) }
 {
@@ -162,7 +163,8 @@ pub fn put_set(said: &mut Vec<u8>, names: &Names, set: IfaceSet) -> Result<(), A
     Ok(())
 }
 
-// Returns the first number from `from` on that is not in the set, or `count` if all numbers from `from` to `count` are in the set.
+// Returns the first number, starting at `from`, that is not in the set, or `count` if the set contains all numbers from `from` to
+// below `count`.
 fn run_end(set: IfaceSet, from: u8, count: u8) -> u8
     requires from { from < count }
     requires few { count ≤ 16 }
@@ -180,7 +182,7 @@ fn run_end(set: IfaceSet, from: u8, count: u8) -> u8
     count
 }
 
-// Adds the names of the interfaces from one number up to another, with a comma before them unless they are the first.
+// Appends the names of consecutive interfaces, with a comma before them unless they are the first names.
 fn put_run(
     said: &mut Vec<u8>,
     names: &Names,

@@ -24,10 +24,11 @@ pub enum BenchFault {
     /// The configuration is not valid for a bench. Nothing was read or written.
     #[error("bad bus")]
     BadConfig,
-    /// The line with this number, counted from 1, is not valid. The lines before it were carried out.
+    /// The line with this number (counted from 1) is not valid. The lines before it were carried out.
     #[error("line {0}: bad line")]
     BadLine(u32),
-    /// The input has more than 16,777,216 bytes or needs more reads than that. All complete lines that were read were carried out.
+    /// The input is larger than 16,777,216 bytes or requires more reads than that. All complete lines that were read were carried
+    /// out.
     #[error("input too long")]
     TooLong,
     /// The reader failed. All complete lines that were read were carried out.
@@ -48,22 +49,21 @@ pub struct BenchConfig<F> {
     pub names: Names,
     /// The bus.
     pub config: BusConfig,
-    /// The source of the faults of the attempts.
+    /// The source of faults for the attempts.
     pub script: F,
-    /// The number of items that a socket holds, from 1 to 65,536.
+    /// The receive queue capacity of a socket in items, from 1 to 65,536.
     pub rx_capacity: u32,
     /// The bit rates of the bus, if its attempts are to take time. Without bit rates, each attempt happens at the moment that was
     /// set last.
     pub timing: Option<Timing>,
-    /// Whether the lines of attempts show the faults and the rules that gave them.
+    /// Whether the lines of attempts show the faults and the rules that caused them.
     pub shows_faults: bool,
 }
 
-/// Carries out the lines of an input on one bus and writes their output. Returns the record of the bus.
-///
-/// The output of each line is written in one call, so a writer that is slow for small writes should be buffered. The writer is
-/// flushed before each read, so the source of the input has the replies to all lines so far. At most 8,192 bytes of the input are
-/// kept, however long it is. The running time grows with the number of lines and with their work on the bus. `NoMemory` can be
+/// Carries out the lines of an input on one bus and writes their output. Returns the record of the bus. The output of each line is
+/// written in one call, so a writer that is slow for small writes should be buffered. The writer is flushed before each read, so
+/// the source of the input has the replies to all lines so far. At most 8,192 bytes of the input are kept in memory, however long
+/// the input is. The running time grows with the number of lines and with the work that they cause on the bus. `NoMemory` can be
 /// returned before the first line or in place of a line; the output of the earlier lines was then written. `bench_lines` reports
 /// more exactly how far the input was read.
 pub fn bench<F: FaultSource + Drop, R: Read + Drop, W: Write>(
@@ -88,8 +88,8 @@ pub fn bench<F: FaultSource + Drop, R: Read + Drop, W: Write>(
     bench_noting(alloc, config, plan, input, out, &mut IgnoredInput::none())
 }
 
-/// Works like `bench`, with a plan of faults for the bus in addition to the source of faults. If the run reaches its end, `ignored`
-/// shows which sessions had input outside messages.
+/// Works like `bench`, but also uses a fault plan for the bus in addition to the source of faults. If the run reaches its end,
+/// `ignored` shows which sessions had input outside messages.
 pub fn bench_noting<F: FaultSource + Drop, R: Read + Drop, W: Write>(
     alloc: Global,
     config: BenchConfig<F>,
@@ -134,8 +134,8 @@ pub fn bench_noting<F: FaultSource + Drop, R: Read + Drop, W: Write>(
     Ok(state.into_record())
 }
 
-/// Works like `bench`, over `lines` from which nothing has been read. Afterwards `lines` shows how far the input was read, so a
-/// reader that failed can be distinguished from a line that is too long.
+/// Works like `bench`, but reads from `lines`, from which nothing has been read before. Afterwards `lines` shows how far the input
+/// was read, so a reader that failed can be distinguished from a line that is too long.
 pub fn bench_lines<F: FaultSource + Drop, R: Read + Drop, W: Write>(
     alloc: Global,
     config: BenchConfig<F>,
@@ -171,11 +171,10 @@ pub fn bench_lines<F: FaultSource + Drop, R: Read + Drop, W: Write>(
     Ok(state.into_record())
 }
 
-/// Carries out the lines of a text on a bench and adds their output. The bench continues from the previous calls.
-///
-/// After a fault, the lines before the faulty line were carried out and their output was added. After `BadLine` the bench can
-/// continue. After `NoMemory` or `Write`, a line may be half done; `Write` can also mean a lack of memory, and then output may be
-/// missing.
+/// Carries out the lines of a text on a bench and appends their output. The bench continues from its state after the previous call.
+/// After a fault, the lines before the faulty line were carried out and their output was appended. After `BadLine`, further lines
+/// can be carried out. After `NoMemory` or `Write`, a line may be half done. `Write` can also mean a lack of memory, and then
+/// output may be missing.
 pub fn take_lines<F: FaultSource>(
     alloc: Global,
     state: &mut Bench,
@@ -245,8 +244,7 @@ fn go_on<F: FaultSource, R: Read + Drop, W: Write>(
     Ok(true)
 }
 
-/// Goes on to the next line, which has this number. Returns false if there are no more lines. The output is flushed before each
-/// read.
+/// Moves to the next line, which has this number. Returns false if there are no more lines. The output is flushed before each read.
 fn next_line<R: Read + Drop, W: Write>(
     lines: &mut Lines<R>,
     number: u32,
@@ -286,7 +284,7 @@ fn put<W: Write>(out: &mut W, said: &[u8]) -> Result<(), BenchFault>
     }
 }
 
-/// Returns the report of an input fault at the line with this number.
+/// Converts an input fault at the line with this number into a bench fault.
 fn bench_fault(fault: InputFault, number: u32) -> BenchFault
     ensures { result ≡ input_fault_of number fault }
 {

@@ -1,4 +1,4 @@
-//! The start of a bench.
+//! The initial state of a bench.
 ghost use Rattle.std.specs.Prelude.{◌≡◌, [], ◌↔◌, None, Err, replicate, OnOk, IfOk, IfErr};
 ghost use Rattle.can_event.specs.Events.{IsConfig};
 ghost use Rattle.can_session.specs.Runs.{IsStartFault};
@@ -9,7 +9,7 @@ use can_dialog::Session;
 use can_frame::Moment;
 use std::alloc::{AllocError, Global};
 
-/// Returns a bus without history.
+/// Returns a bus with an empty record.
 pub fn make_bus(alloc: Global, config: BusConfig) -> Result<RingBus, BenchFault>
     ensures made { IfOk result (λ b. b ≡ record { config = config; history = [] }) }
     ensures proper { OnOk result (IsConfig config) }
@@ -33,7 +33,7 @@ pub fn the_start() -> Moment
     }
 }
 
-/// Returns places for 64 sessions, none of which has started.
+/// Returns a list of 64 sessions that have not started.
 pub fn no_sessions(alloc: Global) -> Result<Vec<Option<Session>>, AllocError>
     ensures { IfOk result (λ sessions. sessions.items ≡ replicate 64 None) }
 {

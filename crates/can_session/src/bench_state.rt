@@ -130,7 +130,7 @@ impl Bench {
     }
 
     /// Carries out a line and puts its output into `said`. Returns whether the line was valid. An invalid line leaves the bench
-    /// unchanged, except that the record contains a change that the bus refused.
+    /// unchanged, except that a change that the bus refused is recorded.
     pub fn take_line<F: FaultSource>(
         &mut self,
         script: &mut F,
@@ -168,7 +168,7 @@ impl Bench {
         }
     }
 
-    /// Runs one act of a session and adds the session's number and its output. Returns false if the session was not started.
+    /// Performs one act of a session and appends the session's number and output. Returns false if the session was not started.
     #[inline(always)]
     fn run_act(
         &mut self,
@@ -235,7 +235,7 @@ impl Bench {
     }
 
     /// Takes the interface with this name down at the current moment. Returns false if there is no such interface or if the bus
-    /// refuses. If the record is full, it adds `record full` and returns true.
+    /// refuses. If the record is full, appends `record full` and returns true.
     fn take_down(&mut self, name: &[u8], said: &mut Vec<u8>) -> Result<bool, AllocError>
         requires { said.old.items ≡ [] }
         ensures changed { IfOk result (λ good. MatchBool good
@@ -251,7 +251,7 @@ impl Bench {
     }
 
     /// Restarts the interface with this name at the current moment, if the interface is bus off or down. Returns false if there is
-    /// no such interface or if the bus refuses. If the record is full, it adds `record full` and returns true.
+    /// no such interface or if the bus refuses. If the record is full, appends `record full` and returns true.
     fn bring_up(&mut self, name: &[u8], said: &mut Vec<u8>) -> Result<bool, AllocError>
         requires { said.old.items ≡ [] }
         ensures changed { IfOk result (λ good. MatchBool good
@@ -266,7 +266,7 @@ impl Bench {
         put_change(said, outcome)
     }
 
-    /// Makes the next attempt to send a frame on the bus and adds its line. Returns whether the bus made the attempt.
+    /// Makes the next attempt to send a frame on the bus and appends its line. Returns whether the bus made the attempt.
     fn attempt<F: FaultSource>(
         &mut self,
         script: &mut F,
@@ -310,7 +310,7 @@ impl Bench {
         Ok(true)
     }
 
-    /// Makes all attempts that are due before a moment. It stops if the bus refuses an attempt.
+    /// Makes all attempts that are due before a moment. It stops early if the bus refuses an attempt.
     fn make_due<F: FaultSource>(
         &mut self,
         script: &mut F,
@@ -329,8 +329,8 @@ impl Bench {
         Ok(())
     }
 
-    /// Returns whether an attempt would begin before this moment and either has a frame to send or lets time pass for an interface
-    /// that waits for its restart.
+    /// Returns whether another attempt is due: it would begin before this moment, and there is a frame to send or an interface
+    /// waits for its restart in time.
     fn is_due(&self, moment: Moment) -> bool
         ensures { result ≡ is_attempt_due moment self.now }
     {
@@ -338,7 +338,7 @@ impl Bench {
             && (self.port.next_head().is_some() || self.port.waits_in_time())
     }
 
-    /// Returns the moment to show in the line of an attempt. Only attempts of a bus with bit rates show it.
+    /// Returns the moment to show in the line of an attempt, or `None` if the bus has no bit rates.
     fn said_moment(&self, moment: Moment) -> Option<Moment>
         ensures { result ≡ said_moment self.now.bus.schedule moment }
     {
@@ -349,7 +349,7 @@ impl Bench {
         }
     }
 
-    /// Returns the decision to show in the line of an attempt, if faults are shown.
+    /// Returns the decision to show in the line of an attempt, or `None` if faults are not shown.
     fn said_decision(&self, decision: Decision) -> Option<Decision>
         ensures { result ≡ said_decision self.now.shows_faults decision }
     {
@@ -374,8 +374,8 @@ impl Bench {
     }
 }
 
-/// Adds `record full` if a full record prevented a change of an interface. Returns true in this case and if the change was made,
-/// and false if the bus refused the change for another reason.
+/// Appends `record full` if a full record prevented a change of an interface. Returns true in this case and if the change was made.
+/// Returns false if the bus refused the change for another reason.
 fn put_change(said: &mut Vec<u8>, outcome: Result<(), Refusal>) -> Result<bool, AllocError>
     requires { said.old.items ≡ [] }
     ensures good { IfOk result (λ good. good ≡ is_good_change outcome) }
@@ -391,7 +391,7 @@ fn put_change(said: &mut Vec<u8>, outcome: Result<(), Refusal>) -> Result<bool, 
     }
 }
 
-/// Notes the bytes that an act feeds to a session.
+/// Records the bytes that an act feeds to a session.
 fn note(ignored: &mut IgnoredInput, session: SessionNumber, act: Act<'_>)
     ensures { ignored.new ≡ noted_by act.entry session ignored.old }
 {

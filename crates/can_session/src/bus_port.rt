@@ -24,8 +24,8 @@ use can_wire::Schedule;
 use std::alloc::{AllocError, Global};
 use std::marker::Model;
 
-/// A bus as a port, with the names of its interfaces and the plan of its faults. Each call is one event of the bus, except calls
-/// that look up names, counts or error counters and calls about fault rules.
+/// A bus as a port, with the names of its interfaces and its fault plan. Each call is one event on the bus, except for calls that
+/// look up names, counts or error counters and calls about fault rules.
 #[derive(Drop)]
 pub struct BusPort<T: BoundedQueue<Pending>, R: BoundedQueue<Received>, A: Arbiter> {
     alloc: Global,
@@ -53,8 +53,8 @@ impl<T: BoundedQueue<Pending>, R: BoundedQueue<Received>, A: Arbiter> Model for 
 }
 
 impl<T: BoundedQueue<Pending>, R: BoundedQueue<Received>, A: Arbiter> BusPort<T, R, A> {
-    /// Returns the port of a bus. The interfaces have these names, starting with interface 0. The calls allocate memory from
-    /// `alloc`.
+    /// Returns the port of a bus. `names` contains the names of the interfaces, starting with interface 0. The calls allocate
+    /// memory from `alloc`.
     pub fn new(alloc: Global, names: Names, bus: Bus<T, R, A>) -> BusPort<T, R, A>
         ensures { result ≡ record {
           names = names;
@@ -66,8 +66,8 @@ impl<T: BoundedQueue<Pending>, R: BoundedQueue<Received>, A: Arbiter> BusPort<T,
         BusPort::with_plan(alloc, names, bus, Plan::new(alloc), None)
     }
 
-    /// Returns the port of a bus that has a plan of faults and, if it has bit rates, a schedule of its attempts. It is otherwise
-    /// like `new`.
+    /// Returns the port of a bus that has a fault plan and, if it has bit rates, a schedule of its attempts. Otherwise the port is
+    /// as returned by `new`.
     pub fn with_plan(
         alloc: Global,
         names: Names,
@@ -105,14 +105,14 @@ impl<T: BoundedQueue<Pending>, R: BoundedQueue<Received>, A: Arbiter> BusPort<T,
         &self.bus
     }
 
-    /// Returns the bus and gives up the port.
+    /// Consumes the port and returns its bus.
     pub fn into_bus(self) -> Bus<T, R, A>
         ensures { result ≡ self.journal }
     {
         self.bus
     }
 
-    /// Returns the number that the next attempt with a frame will have.
+    /// Returns the number of the next attempt with a frame.
     pub fn next_attempt(&self) -> u64
         ensures { result ≡ next_number_on self.now }
     {
@@ -162,11 +162,9 @@ impl<T: BoundedQueue<Pending>, R: BoundedQueue<Received>, A: Arbiter> BusPort<T,
         }
     }
 
-    /// Tries the frame that wins arbitration, if a live interface has one to send, and restarts the interfaces whose restart is
-    /// due. The source gives the verdict, or the plan gives it if the source says good. Returns the verdict with the rule that gave
-    /// it, if any, and the outcome.
-    ///
-    /// Refusal: `RecordFull`.
+    /// Tries the frame that wins arbitration, if a live interface has a frame to send, and restarts the interfaces whose restart is
+    /// due. The verdict comes from the source, or from the plan if the source's verdict is good. Returns the outcome and the
+    /// verdict with the rule that decided it, if any. Refusal: `RecordFull`.
     pub fn attempt(
         &mut self,
         moment: Moment,
@@ -214,9 +212,8 @@ impl<T: BoundedQueue<Pending>, R: BoundedQueue<Received>, A: Arbiter> BusPort<T,
         self.bus.restart(iface, moment)
     }
 
-    /// Adds a fault rule at the end of the plan.
-    ///
-    /// Refusals, in this order, which change nothing: `BadRule`, `UnknownInterface`, `TooManyRules`, `NoMemory`.
+    /// Adds a fault rule at the end of the plan. Refusals, in this order: `BadRule`, `UnknownInterface`, `TooManyRules`,
+    /// `NoMemory`. A refused call changes nothing.
     pub fn take_rule(&mut self, rule: &[u8]) -> Result<(), RuleRefusal>
         ensures takes { Injected self.old.names rule.now self.old.plan result self.new.plan }
         ensures same { self.new ≡ record self.old { plan = self.new.plan } }
@@ -224,7 +221,7 @@ impl<T: BoundedQueue<Pending>, R: BoundedQueue<Received>, A: Arbiter> BusPort<T,
         self.plan.inject(rule, &self.names)
     }
 
-    /// On a bus with bit rates, notes in the schedule the time that an attempt took. The current moment is `set`. Returns the
+    /// On a bus with bit rates, records in the schedule the time that an attempt took. The current moment is `set`. Returns the
     /// moment at which the wire is free again.
     pub(crate) fn pass_time(
         &mut self,
@@ -246,8 +243,8 @@ impl<T: BoundedQueue<Pending>, R: BoundedQueue<Received>, A: Arbiter> BusPort<T,
         Some(schedule.wire().free_at())
     }
 
-    /// Returns the verdict of the next attempt and the rule that gives it, if any. The source's verdict is `source`. The plan
-    /// counts the attempt.
+    /// Returns the verdict of the next attempt and the rule that decides it, if any. The verdict from the source is `source`. The
+    /// plan counts the attempt.
     fn next_decision(&mut self, source: Verdict) -> Decision
         ensures decision { result ≡ decision_on self.old source }
         ensures verdict { result.verdict ≡ verdict_on self.old source }
@@ -294,7 +291,7 @@ impl<T: BoundedQueue<Pending>, R: BoundedQueue<Received>, A: Arbiter> Port for B
         }
     }
 
-    // These calls are the most frequent ones of a session, so they use neither an event nor a reply value.
+    // A session makes these calls most often, so they use neither an event nor a reply value.
     fn send(&mut self, socket: SocketId, frame: Frame) -> Result<u64, PortRefusal> {
         pass_on(self.bus.send(socket, frame))
     }

@@ -1,4 +1,4 @@
-//! Notes which sessions had input outside messages, so that a run can report it.
+//! Records which sessions had input outside messages, so that a run can report them.
 ghost use Rattle.std.specs.Prelude.{◌≡◌, true, false};
 ghost use Rattle.can_proto.specs.Messages.{has_mark};
 ghost use Rattle.can_session.specs.IgnoredInput.{begun_after, is_set, has_outside, none_ignored, ignored_then};
@@ -9,13 +9,13 @@ use crate::order::SessionNumber;
 /// LF outside messages do not count.
 #[derive(Debug, Clone, Copy, PartialEq, Eq)]
 pub struct IgnoredInput {
-    // One flag for each session.
+    // For each session, whether its last message has begun but not ended.
     begun: [bool; 64],
     outside: [bool; 64],
 }
 
 impl IgnoredInput {
-    /// Returns a value that says that no session was fed anything yet.
+    /// Returns the state in which no session has been fed anything.
     pub fn none() -> IgnoredInput
         ensures { result ≡ none_ignored }
     {
@@ -32,14 +32,14 @@ impl IgnoredInput {
         self.begun[session.place()]
     }
 
-    /// Returns whether the session was fed bytes outside messages, or a message that a second `<` began anew.
+    /// Returns whether the session was fed bytes outside messages, or a second `<` inside an open message.
     pub fn has_outside(&self, session: SessionNumber) -> bool
         ensures { result ≡ is_set self.now.outside session }
     {
         self.outside[session.place()]
     }
 
-    /// Notes the bytes that are fed to a session.
+    /// Records the bytes that are fed to a session.
     pub fn hear(&mut self, session: SessionNumber, bytes: &[u8])
         ensures { self.new ≡ ignored_then self.old session bytes.now }
     {
@@ -52,7 +52,7 @@ impl IgnoredInput {
     }
 }
 
-// Returns whether a message is open after these bytes. The last mark decides.
+// Returns whether a message is open after these bytes. The last `<` or `>` decides.
 fn is_begun_after(bytes: &[u8], was_begun: bool) -> bool
     ensures { result ≡ begun_after was_begun bytes.now }
 {
@@ -67,7 +67,7 @@ fn is_begun_after(bytes: &[u8], was_begun: bool) -> bool
     was_begun
 }
 
-// Returns whether any of the bytes are outside messages, or in a message that a second `<` begins anew.
+// Returns whether any of the bytes are outside messages, or a second `<` is inside an open message.
 fn are_outside(bytes: &[u8], was_begun: bool) -> bool
     ensures { result ≡ has_outside was_begun bytes.now }
 {
@@ -98,7 +98,7 @@ fn is_message(bytes: &[u8]) -> bool
     }
 }
 
-// Returns whether the bytes contain a mark. The loop never ends early, so the compiler can compare many bytes at once.
+// Returns whether the bytes contain a `<` or `>`. The loop never ends early, so the compiler can compare many bytes at once.
 fn has_marks(bytes: &[u8]) -> bool
     ensures { result ≡ has_mark bytes.now }
 {

@@ -12,9 +12,9 @@ ghost use Rattle.can_session.specs.declared.lines.InputFault.{InputFault};
 ghost use Rattle.can_session.specs.declared.lines.InputFault.TheVariants.{TooLong, Read};
 ghost use Rattle.can_session.specs.IgnoredInput.{AreMessagesInOrder, begun_after, has_outside};
 
-/// The calls of `Lines` together return the lines of the reader's text in order. After a fault they have returned all lines before
-/// the line that is too long, or all lines of the text read so far that end with LF. The position in the input shows whether the
-/// reader failed or the input is too long.
+/// The calls of `Lines` together return the lines of the reader's text in order. If a fault occurs, they have returned all lines
+/// before the line that is too long, or all lines that end with LF in the text read so far. The position in the input shows whether
+/// the reader failed or the input is too long.
 pub fn lines_given_are_those_of_the_text()
     ensures start { (text : List ℕ) (now : Input) →
         left_of now ≡ Some text → now.given ≡ 0 → Given text [] now }
@@ -32,7 +32,7 @@ pub fn lines_given_are_those_of_the_text()
 {}
 
 /// A stream has no bytes outside messages exactly if it consists of messages separated only by blanks, where the last message may
-/// be unfinished. Two pieces of a stream give the same result when they are fed separately or together.
+/// be unfinished. The result is the same whether two pieces of a stream are fed separately or together.
 pub fn nothing_is_outside_messages_and_blanks()
     ensures order { (bytes : List ℕ) →
         (has_outside false bytes ≡ false) ↔ AreMessagesInOrder bytes (begun_after false bytes) }
@@ -61,8 +61,9 @@ pub fn lines_have_faults_only_where_they_are_shown()
         said_decision b.shows_faults decision ≡ None }
 {}
 
-/// On a bus with bit rates, an attempt does not begin before the moment that is set or before the wire is free. Afterwards, the
-/// wire does not become free earlier than the attempt began. The moment of an attempt is never before that of the previous attempt.
+/// On a bus with bit rates, an attempt does not begin before the moment that is set or before the wire is free. After the attempt,
+/// the wire becomes free no earlier than the attempt began. The moment of an attempt is never before the moment of the previous
+/// attempt.
 pub fn one_attempt_comes_after_another()
     ensures begins { (s : Schedule) (moment : ℕ) →
         (moment * 1000 ≤ next_begin (set_to moment s))

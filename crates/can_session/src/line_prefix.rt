@@ -1,4 +1,4 @@
-//! The output of a session in a line: the session's number, a space, its words and LF. The output is empty if the session has no
+//! The output of a session as a line: the session's number, a space, its words and LF. The line is omitted if the session has no
 //! words.
 ghost use Rattle.std.specs.Prelude.{◌≡◌, ◌++◌, ◌∷◌, ◌<◌, [], length, OnOk, IfOk};
 ghost use Rattle.std.specs.Fmt.{decimal};
@@ -7,7 +7,7 @@ use crate::numbers::put_number;
 use crate::order::SessionNumber;
 use std::alloc::AllocError;
 
-/// Adds the session's number and a space, and returns the length of both in bytes.
+/// Appends the session's number and a space, and returns the length of both in bytes.
 pub fn begin_output(said: &mut Vec<u8>, session: SessionNumber) -> Result<usize, AllocError>
     requires { said.old.items ≡ [] }
     ensures text { OnOk result (said.new.items ≡ decimal session ++ 32 ∷ []) }
@@ -18,7 +18,7 @@ pub fn begin_output(said: &mut Vec<u8>, session: SessionNumber) -> Result<usize,
     Ok(said.len())
 }
 
-/// Adds LF after the words of a session, or removes everything if there are no words. The words begin after `begun` bytes.
+/// Appends LF after the words of a session, or removes everything if there are no words. The words begin at index `begun`.
 pub fn end_output(said: &mut Vec<u8>, begun: usize) -> Result<(), AllocError>
     ensures none { length said.old.items ≡ begun → said.new.items ≡ [] }
     ensures some { OnOk result (begun < length said.old.items →

@@ -19,9 +19,9 @@ pub const LONGEST_INPUT: usize = 16_777_216;
 /// The reason why there is no next line.
 #[derive(Debug, Clone, Copy, PartialEq, Eq)]
 pub enum InputFault {
-    /// The line has more than 4,096 bytes.
+    /// The line is longer than 4,096 bytes.
     LineTooLong,
-    /// The input has more bytes or needs more reads than allowed.
+    /// The input has more bytes or requires more reads than allowed.
     TooLong,
     /// The reader failed.
     Read,
@@ -32,7 +32,7 @@ pub enum InputFault {
 #[derive(Drop)]
 pub struct Lines<R: Read + Drop> {
     input: R,
-    // The held bytes. They begin with the current line and its LF, if it has one.
+    // The bytes held in memory. They begin with the current line and its LF, if it has one.
     buffer: ReadBuffer,
     // The length of the current line without its LF (`line`) and with its LF (`width`).
     line: usize,
@@ -74,7 +74,7 @@ impl<R: Read + Drop> Model for Lines<R> {
 }
 
 impl<R: Read + Drop> Lines<R> {
-    /// Returns the lines of an input from which nothing has been read. Takes 8,192 bytes of memory.
+    /// Returns a reader for the lines of an input from which nothing has been read. It uses 8,192 bytes of memory.
     pub fn new(alloc: Global, input: R) -> Result<Lines<R>, AllocError>
         ensures { IfOk result (λ l. l ≡ unread (R.remaining input)) }
     {
@@ -98,7 +98,7 @@ impl<R: Read + Drop> Lines<R> {
         &self.buffer.as_slice()[..self.line]
     }
 
-    /// Goes on to the next line if that line was already read completely. Returns whether it was. Nothing is read.
+    /// Moves to the next line if that line was already read completely. Returns whether it moved. Nothing is read.
     pub fn take_held(&mut self) -> bool
         ensures took { MatchBool result (TakesInputLine self.old self.new) (self.new ≡ self.old) }
         ensures fine { result ≡ true → self.old.fault ≡ None }
@@ -116,11 +116,10 @@ impl<R: Read + Drop> Lines<R> {
         }
     }
 
-    /// Goes on to the next line, which may have at most 4,096 bytes. Returns false at the end of the input. It reads only until it
-    /// has a complete line, so all complete lines before a fault have been returned.
-    ///
-    /// Faults: `LineTooLong` at the 4,097th byte of a line, `TooLong` at the byte or the read past the limit, and `Read` if the
-    /// reader failed. After a fault nothing more is read, and each call returns the same fault.
+    /// Moves to the next line, which may have at most 4,096 bytes. Returns false at the end of the input. It reads only until it
+    /// has a complete line, so all complete lines before a fault have been returned. Faults: `LineTooLong` at the 4,097th byte of a
+    /// line, `TooLong` at the byte or the read past the limit, and `Read` if the reader failed. After a fault nothing more is read,
+    /// and each call returns the same fault.
     pub fn next_line(&mut self) -> Result<bool, InputFault>
         ensures ok { IfOk result (λ found. ComesNext found self.old self.new) }
         ensures fine { OnOk result (self.old.fault ≡ None) }
@@ -167,7 +166,7 @@ impl<R: Read + Drop> Lines<R> {
         }
     }
 
-    // Makes each later call return this fault.
+    // Stores this fault, so that every later call returns it.
     fn stop(&mut self, fault: InputFault)
         ensures within { IsWithinLimits self.new }
         ensures told { self.new ≡ record self.old { fault = Some fault } }
@@ -197,7 +196,7 @@ impl<R: Read + Drop> Lines<R> {
         &self.buffer.as_slice()[self.width..]
     }
 
-    // Makes the first `line` of the held bytes the current line. The line takes `width` bytes with its LF.
+    // Makes the first `line` bytes after the previous line the current line. The line has `width` bytes including its LF.
     fn give(&mut self, line: usize, width: usize)
         requires line { line ≤ width }
         requires width { width ≤ length self.old.held }
@@ -211,7 +210,7 @@ impl<R: Read + Drop> Lines<R> {
         self.given += width;
     }
 
-    // Makes all held bytes the last line.
+    // Makes all held bytes the current line, which is the last line.
     fn finish(&mut self)
         requires end { IsAtEnd self.old.coming }
         ensures within { IsWithinLimits self.new }
@@ -225,7 +224,7 @@ impl<R: Read + Drop> Lines<R> {
         self.is_over = true;
     }
 
-    // Reads once and returns the number of bytes read. At most one byte past the input's limit is requested, to find out whether
+    // Reads once and returns the number of bytes read. Requests at most one byte more than the input's limit, to find out whether
     // the input is too long.
     fn fill(&mut self) -> Result<usize, InputFault>
         requires short { length self.old.held ≤ 4096 }
@@ -257,17 +256,17 @@ impl<R: Read + Drop> Lines<R> {
     }
 }
 
-// The result of looking for a line at the start of the held bytes.
+// The result of a search for a line at the start of the held bytes.
 enum LineSearch {
     // A line of this many bytes, and its LF.
     Line(usize),
-    // More bytes than a line may have, without LF.
+    // More bytes than a line may have, and no LF.
     Long,
-    // An incomplete line, or nothing.
+    // An incomplete line or no bytes.
     Begun,
 }
 
-// Looks for a line in the held bytes. The first `searched` bytes are known to contain no LF.
+// Searches for a line at the start of the held bytes. The first `searched` bytes are known to contain no LF.
 fn find_line(held: &[u8], searched: usize) -> LineSearch
     requires searched { searched ≤ length held.now }
     requires short { searched ≤ 4096 }

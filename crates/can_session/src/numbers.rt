@@ -4,7 +4,7 @@ ghost use Rattle.std.specs.Fmt.{decimal};
 use can_frame::Text;
 use std::alloc::AllocError;
 
-/// Adds a number in decimal.
+/// Appends a number in decimal.
 #[inline(always)]
 pub fn put_number(said: &mut Vec<u8>, number: u64) -> Result<(), AllocError>
     ensures { OnOk result (said.new.items ≡ said.old.items ++ decimal number) }
@@ -16,7 +16,7 @@ pub fn put_number(said: &mut Vec<u8>, number: u64) -> Result<(), AllocError>
     put_digits(said, number)
 }
 
-// Adds a number through a separate text of its digits.
+// Appends a number in decimal through a separate string of its digits.
 #[inline(never)]
 fn put_digits(said: &mut Vec<u8>, number: u64) -> Result<(), AllocError>
     ensures { OnOk result (said.new.items ≡ said.old.items ++ decimal number) }

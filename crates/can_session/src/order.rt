@@ -45,7 +45,7 @@ impl SessionNumber {
         self.number
     }
 
-    /// Returns the index of the session among all sessions, from 0.
+    /// Returns the index of the session in the list of sessions, starting at 0.
     pub fn place(self) -> usize
         ensures place { result ≡ self - 1 }
         ensures within { result < 64 }
@@ -54,10 +54,10 @@ impl SessionNumber {
     }
 }
 
-/// The order that a line of the bench's input gives.
+/// The command in a line of the bench's input.
 #[derive(Clone, Copy)]
 pub enum Order<'a> {
-    /// Do nothing. The line is empty or a comment.
+    /// Do nothing: the line is empty or a comment.
     Nothing,
     /// Set the moment.
     At(Moment),
@@ -65,7 +65,7 @@ pub enum Order<'a> {
     Session(SessionNumber),
     /// Feed these bytes to a session.
     Feed(SessionNumber, &'a [u8]),
-    /// Deliver to a session the items that its socket received.
+    /// Deliver the items that a session's socket has received to the session.
     Drain(SessionNumber),
     /// End a session.
     End(SessionNumber),
@@ -73,7 +73,7 @@ pub enum Order<'a> {
     Attempt,
     /// Make all attempts that begin before this moment.
     Run(Moment),
-    /// Add the fault rule with this text to the bus.
+    /// Add a fault rule, given as a string, to the bus.
     Fault(&'a [u8]),
     /// Take the interface with this name down.
     Down(&'a [u8]),
@@ -81,7 +81,7 @@ pub enum Order<'a> {
     Up(&'a [u8]),
 }
 
-/// Returns the order that a line without its LF spells, or `None` if the line is not valid.
+/// Parses a line without its LF. Returns `None` if the line is not valid.
 pub fn read_order(line: &[u8]) -> Option<Order<'_>>
     ensures { option_map effect_of result ≡ order_of line.now }
 {
@@ -104,7 +104,7 @@ pub fn read_order(line: &[u8]) -> Option<Order<'_>>
     read_asked(word, rest)
 }
 
-// Returns the order of a line that is split at its first space.
+// Parses a line that was split at its first space.
 fn read_asked<'a>(word: &[u8], rest: &'a [u8]) -> Option<Order<'a>>
     ensures { option_map effect_of result ≡ asked_by_word (word.now, rest.now) }
 {
@@ -131,7 +131,7 @@ fn read_asked<'a>(word: &[u8], rest: &'a [u8]) -> Option<Order<'a>>
     }
 }
 
-// Lines that begin with the most frequent words are not searched for a space.
+// The next functions match the most frequent words directly, without a search for a space.
 
 // Returns the bytes after `at` and a space.
 fn after_at(line: &[u8]) -> Option<&[u8]>
@@ -163,14 +163,14 @@ fn after_drain(line: &[u8]) -> Option<&[u8]>
     }
 }
 
-// Returns the order of a line that begins with `at`, given the bytes after that word.
+// Parses the bytes after `at` and a space.
 fn read_at(rest: &[u8]) -> Option<Order<'_>>
     ensures { option_map effect_of result ≡ option_map Effect.Sets (moment_in rest.now) }
 {
     Some(Order::At(read_moment(rest)?))
 }
 
-// Reads the bytes after `feed`.
+// Parses the bytes after `feed` and a space.
 fn read_feed(rest: &[u8]) -> Option<Order<'_>>
     ensures { option_map effect_of result ≡ option_and_then fed_by (parted 32 rest.now) }
 {
@@ -178,7 +178,7 @@ fn read_feed(rest: &[u8]) -> Option<Order<'_>>
     Some(Order::Feed(read_session(session)?, bytes))
 }
 
-// Reads the bytes after `drain`.
+// Parses the bytes after `drain` and a space.
 fn read_drain(rest: &[u8]) -> Option<Order<'_>>
     ensures { option_map effect_of result ≡ option_map Effect.Drains (session_of rest.now) }
 {
@@ -210,7 +210,7 @@ fn split_at_first(text: &[u8], mark: u8) -> Option<(&[u8], &[u8])>
     Some((&text[..place], &text[place + 1..]))
 }
 
-/// Reads the number of a session, from 1 to 64, without leading zeros.
+/// Parses the number of a session, from 1 to 64, without leading zeros.
 fn read_session(word: &[u8]) -> Option<SessionNumber>
     ensures { result ≡ session_of word.now }
 {

@@ -1,4 +1,4 @@
-//! The buffer between a reader and the lines made of its bytes.
+//! The buffer between a reader and the lines that are made from its bytes.
 ghost use Rattle.std.specs.Prelude.{◌≡◌, ◌+◌, ◌-◌, ◌<◌, ◌≤◌, [], length, take, drop, slice_range, IfOk, OnErr};
 ghost use Rattle.std.specs.Io.KnownBytes.{Keeps, IsAtEnd};
 ghost use Rattle.can_session.specs.inner.Reads.{Gains};
@@ -11,7 +11,7 @@ use std::marker::Model;
 /// The largest number of bytes that a buffer holds.
 const ROOM: usize = 8192;
 
-/// Bytes that were read but not yet used, in order. There are at most 8,192 of them.
+/// Bytes that were read but not yet used, in order. The buffer holds at most 8,192 bytes.
 #[derive(Drop)]
 pub struct ReadBuffer {
     bytes: Vec<u8>,
@@ -50,7 +50,7 @@ impl ReadBuffer {
         &all[start..end]
     }
 
-    /// Removes this many bytes from the front.
+    /// Removes the first `count` bytes.
     pub fn consume(&mut self, count: usize)
         requires { count ≤ length self.old }
         ensures { self.new ≡ drop count self.old }
@@ -66,7 +66,7 @@ impl ReadBuffer {
         self.end = self.start + count;
     }
 
-    /// Reads once, at most this many bytes, and returns the number of bytes read.
+    /// Reads up to `most` bytes in one call and returns the number of bytes read.
     pub fn read_from<R: Read>(&mut self, input: &mut R, most: usize) -> io::Result<usize>
         requires some { 0 < most }
         requires room { length self.old < 8192 }
@@ -101,7 +101,7 @@ fn move_to_front(bytes: &mut [u8], start: usize, end: usize) -> usize
     end - start
 }
 
-// Reads once into the place after the first `end` bytes, and returns the number of bytes read.
+// Reads once into the free space after the first `end` bytes, and returns the number of bytes read.
 fn read_behind<R: Read>(
     bytes: &mut [u8],
     end: usize,

@@ -17,18 +17,18 @@ use std::alloc::{AllocError, Global};
 /// The port of a bench's bus.
 pub type BenchPort = BusPort<RingQueue<Pending>, RingQueue<Received>, IndexArbiter>;
 
-/// An act of a session that a line asks for.
+/// An act that a line requests from a session.
 #[derive(Clone, Copy)]
 pub enum Act<'a> {
     /// The session is fed these bytes.
     Feed(&'a [u8]),
-    /// The session receives its items until none is left.
+    /// The session receives items until no item is left.
     Drain,
     /// The session ends.
     End,
 }
 
-/// Starts a session with this number and adds its first output.
+/// Starts a session with this number and appends its first output.
 pub fn start_session(
     alloc: Global,
     capacity: u32,
@@ -45,7 +45,7 @@ pub fn start_session(
     Ok(session)
 }
 
-/// Returns a session at its start and adds its greeting.
+/// Returns a new session and appends its greeting.
 fn greeted(alloc: Global, capacity: u32, said: &mut Vec<u8>) -> Result<Session, AllocError>
     ensures { IfOk result (λ s.
         (s ≡ beginning capacity) × (said.new.items ≡ said.old.items ++ greeting)) }
@@ -57,7 +57,7 @@ fn greeted(alloc: Global, capacity: u32, said: &mut Vec<u8>) -> Result<Session, 
     }
 }
 
-/// Runs one act of a session and adds the session's output.
+/// Performs one act of a session and appends the session's output.
 #[inline(always)]
 pub fn carry_out(
     session: &mut Session,
@@ -80,7 +80,7 @@ pub fn carry_out(
     }
 }
 
-/// Feeds a piece of input to a session and adds the session's output. A session that is over reads nothing.
+/// Feeds a piece of input to a session and appends the session's output. A session that has ended ignores the input.
 fn feed(
     session: &mut Session,
     alloc: Global,
@@ -99,7 +99,7 @@ fn feed(
     }
 }
 
-/// Delivers items to a session until there are no more, and adds the session's output.
+/// Delivers items to a session until there are no more, and appends the session's output.
 fn drain(session: &mut Session, port: &mut BenchPort, said: &mut Vec<u8>) -> Result<(), AllocError>
     ensures { OnOk result (Adds IsDrained
         session.old port.old said.old.items session.new port.new said.new.items) }

@@ -11,7 +11,7 @@ pub record LineAt (held : List ℕ) (len : ℕ) : Type 0 where
   pub ended : take (len + 1) held ≡ take len held ++ 10 ∷ []
   pub within : len < length held
 
--- the held bytes are as the result of the search says
+-- the held bytes agree with the result of the search
 abbrev pub Shows : List ℕ → LineSearch → Type 0
 Shows held (Line len) = LineAt held len
 Shows held Long = BeginsTooLong held

@@ -8,7 +8,7 @@ use Rattle.can_session.proofs.Configs.{carried_out}
 use Rattle.can_session.proofs.Running.{err_is, ends_unmade, ends_err}
 use Rattle.can_session.proofs.bench_run.bench_lines.Goals as goal
 
--- a bench that was made without a fault plan
+-- a bench that was created without a fault plan
 without_plan : (shows : Bool) (timing : Option BusTiming) (names : List (List ℕ)) (config : BusConfig) (capacity : ℕ) (b : BenchState) (plan : PlanSeen) → b ≡ at_start_with shows plan timing names config capacity → plan ≡ no_plan → b ≡ new_bench shows timing names config capacity
 without_plan shows timing names config capacity b plan made none = made ∙ ap (λ (p : PlanSeen). at_start_with shows p timing names config capacity) none
 

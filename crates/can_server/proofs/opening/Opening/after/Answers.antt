@@ -4,7 +4,7 @@ use Rattle.can_server.specs.declared.opening.Opening.TheVariants.{Blank, Word, C
 use Rattle.can_server.specs.Openings.{is_undecided, after_bytes}
 use Rattle.can_server.proofs.opening.Opening.after.Goals as goal
 
--- a decided state does not change
+-- after a decision, the state does not change
 stays : (o : Opening) (bs : List ℕ) → is_undecided o ≡ false → after_bytes o bs ≡ o
 stays o [] closed = refl
 stays Blank (b ∷ bs) closed = cc
