@@ -4,8 +4,8 @@ use Rattle.can_event.specs.declared.entry.Entry.{Entry}
 use Rattle.can_record.specs.Journal.{Kept}
 use Rattle.can_replay.specs.Histories.{IsHistory}
 
--- The results of the reference functions. can_bus defines them on histories, which begin with the newest entry. The reference
--- computes them from a list of entries, which begins with the oldest (own choice).
+-- The results of the reference functions. can_bus defines them on histories, which begin with the newest entry. The
+-- reference computes them from a list of entries, which begins with the oldest (own choice).
 
 -- the call returned this value, or memory was refused
 abbrev pub Yields : {A E : Type 0} → Result A E → A → Type 0

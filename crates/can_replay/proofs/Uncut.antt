@@ -67,7 +67,8 @@ some_after (x ∷ xs) ys some is = absurd cc
 
 -- ---- a faulty text
 
--- If the first wrong line after `p` does not depend on the bytes that follow `p`, no text that begins with `p` is cut off.
+-- If the first wrong line after `p` does not depend on the bytes that follow `p`, no text that begins with `p` is cut
+-- off.
 wrong_uncut : (p after : List ℕ) (n : ℕ) → EndsLine p → ((more : List ℕ) → more ≢ [] → IsFirstWrong (p ++ more) n) → (c : BusConfig) (es : List Entry) → IsFrontOf (p ++ after) c es → ⊥
 wrong_uncut p after n end wrong c es front =
     let v = front.version in

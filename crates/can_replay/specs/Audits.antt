@@ -10,7 +10,8 @@ use Rattle.can_replay.specs.declared.audits.AuditFault.{AuditFault}
 use Rattle.can_replay.specs.declared.audits.AuditFault.TheVariants as fault
 use Rattle.can_replay.specs.Histories.{before}
 
--- Defines whether a list of entries, the oldest first, is a legal history, and which entry is the first wrong one if it is not.
+-- Defines whether a list of entries, the oldest first, is a legal history, and which entry is the first wrong one if it
+-- is not.
 
 -- Entry k is the first wrong entry. The entries before it are a legal history. Entry k is past the limit, or its reply
 -- does not follow from that history (own choice).

@@ -7,11 +7,11 @@ use Rattle.can_event.specs.declared.received.Received.{Received}
 use Rattle.can_bus.specs.Queues.{queued_to, dropped_at}
 use Rattle.can_bus.specs.Transmit.{lost_count}
 
--- The effects of an entry of a bus's record. The history before the entry is `past`, with the newest entry first. The history after
--- the entry is `e ∷ past`.
+-- The effects of an entry of a bus's record. The history before the entry is `past`, with the newest entry first. The
+-- history after the entry is `e ∷ past`.
 
--- The event is an attempt, a restart or a down. Only these events can queue items on a socket, lose a waiting frame, or change an
--- error count.
+-- The event is an attempt, a restart or a down. Only these events can queue items on a socket, lose a waiting frame, or
+-- change an error count.
 abbrev pub is_step : Event → Bool
 is_step (Attempt m v) = true
 is_step (Restart i m) = true

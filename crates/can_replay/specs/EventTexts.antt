@@ -26,8 +26,8 @@ use Rattle.can_replay.specs.declared.text_fault.WrongLine.{WrongLine}
 use Rattle.can_replay.specs.TextAudits.{HasCome, IsFrontOf, IsLine}
 use Rattle.can_replay.specs.inner.EntryAudits.{IsGoing}
 
--- The output of an audit with events: the lines of the legal entries with their effects, and the other wanted lines. `w` is the
--- wanted value at the start. Each entry that is taken may query the fault rules in it (own choice).
+-- The output of an audit with events: the lines of the legal entries with their effects, and the other wanted lines.
+-- `w` is the wanted value at the start. Each entry that is taken may query the fault rules in it (own choice).
 
 -- ---- the text of a record's events
 
@@ -88,8 +88,8 @@ legal_past text b g = reverse (legal_part g.read.entries b.wrong)
 abbrev pub events_of : Wanted → (text : List ℕ) (b : EntryAudit) → IsGoing text b → List ℕ
 events_of w text b g = events_front w b.version b.config (legal_past text b g)
 
--- A line was taken. Its events are written after the events of the lines before it. The fault rules are updated to their state
--- after its entry.
+-- A line was taken. Its events are written after the events of the lines before it. The fault rules are updated to
+-- their state after its entry.
 abbrev pub WritesOn : EventsText → EntryAudit → EventsText → EntryAudit → List ℕ → Type 0
 WritesOn old before new after line =
     (w : Wanted) (text cleared : List ℕ) (g : IsGoing text before) (h : IsGoing (text ++ line) after) → IsLine line
@@ -102,8 +102,8 @@ abbrev pub IsReadAs : Entry → Result Entry Unread → Type 0
 IsReadAs e (Ok read) = read ≡ e
 IsReadAs e (Err why) = why ≡ unread.NoMemory
 
--- The line of an attempt, a restart or a down was written with its effects and the other wanted parts. The effects are computed
--- from the state of the bus before the entry. The fault rules are updated to their state after the entry.
+-- The line of an attempt, a restart or a down was written with its effects and the other wanted parts. The effects are
+-- computed from the state of the bus before the entry. The fault rules are updated to their state after the entry.
 abbrev pub WritesParts : EventsText → EntryAudit → List ℕ → EventsText → Type 0
 WritesParts old audit line new =
     (past : List Entry) (e : Entry) → HasSeen audit.bus.config past old.before → IsAfter audit.bus (e ∷ past)
@@ -118,8 +118,8 @@ pub record IsWhole (text : List ℕ) (b : EntryAudit) (g : IsGoing text b) (coun
   pub legal : b.wrong ≡ None
   pub counted : count ≡ length g.read.entries
 
--- The text, followed by the bytes `torn`, is cut off: it is the beginning of a legal record's text and contains the lines of this
--- many entries.
+-- The text, followed by the bytes `torn`, is cut off: it is the beginning of a legal record's text and contains the
+-- lines of this many entries.
 pub record IsOff (text torn : List ℕ) (b : EntryAudit) (g : IsGoing text b) (count : ℕ) : Type 0 where
   pub front : IsFrontOf (text ++ torn) b.config g.read.entries
   pub version : front.version ≡ b.version
@@ -148,7 +148,8 @@ abbrev pub held_events : Option EventsText → List ℕ
 held_events None = []
 held_events (Some e) = e.text.items
 
--- The cleared text and the held text together are these events. If the audit does not write events, no text was cleared.
+-- The cleared text and the held text together are these events. If the audit does not write events, no text was
+-- cleared.
 abbrev pub Completes : Option EventsText → List ℕ → List ℕ → Type 0
 Completes None cleared events = cleared ≡ []
 Completes (Some e) cleared events = cleared ++ e.text.items ≡ events
@@ -158,8 +159,8 @@ abbrev pub IsWantedAfter : Wanted → Option EventsText → List Entry → Type 
 IsWantedAfter w None past = Unit {0}
 IsWantedAfter w (Some e) past = e.wanted ≡ wanted_after w past
 
--- The lines that were taken make up this text. All their events were written, starting with the wanted value `w`: first the cleared
--- text, then the held text.
+-- The lines that were taken make up this text. All their events were written, starting with the wanted value `w`: first
+-- the cleared text, then the held text.
 pub record AreWritten (w : Wanted) (text cleared : List ℕ) (p : Phase) (held : Option EventsText) : Type 0 where
   pub taken : HasCome text p
   pub complete : Completes held cleared (events_so_far w text p taken)
@@ -179,7 +180,8 @@ abbrev pub wrong_so_far : Phase → Option WrongLine
 wrong_so_far (phase.Entries b) = b.wrong
 wrong_so_far _ = None
 
--- If the audit writes events, then the text so far, the last rules and the last line are together all events of a legal record.
+-- If the audit writes events, then the text so far, the last rules and the last line are together all events of a legal
+-- record.
 abbrev pub EndsEvents : Wanted → Option EventsText → List ℕ → List ℕ → ℕ → Type 0
 EndsEvents w None text cleared count = Unit {0}
 EndsEvents w (Some e) text cleared count =

@@ -23,9 +23,10 @@ use Rattle.can_replay.specs.Brought.{is_step, put_to, dropped_by, lost_by}
 use Rattle.can_replay.specs.Words.{counts_part, lost_part, part_named, numbered, part, put_word, dropped_words}
 use Rattle.can_replay.specs.Words.{wire_words}
 
--- The text of a record's events: each entry's line with the entry's effects. If the timing of the bus is given, the line of a tried
--- frame also contains its times and bits. If the run's fault rules are given, each rule has a line at the point at which the bus
--- accepts it, and the line of an attempt contains the number of the rule that gave its verdict (own choice).
+-- The text of a record's events: each entry's line with the entry's effects. If the timing of the bus is given, the
+-- line of a tried frame also contains its times and bits. If the run's fault rules are given, each rule has a line at
+-- the point at which the bus accepts it, and the line of an attempt contains the number of the rule that gave its
+-- verdict (own choice).
 
 -- The error counts that the entry changed, by interface.
 abbrev pub counts_parts : BusConfig → List Entry → Entry → List ℕ
@@ -67,8 +68,8 @@ unfoldable pub wire_part : Option BusTiming → Entry → List ℕ
 wire_part None e = []
 wire_part (Some t) e = tried_part t e.event e.reply
 
--- The number of the rule that gave an attempt its verdict. It is None if the event is not an attempt that tried a frame, if no rule
--- gave a verdict, or if the attempt had another verdict.
+-- The number of the rule that gave an attempt its verdict. It is None if the event is not an attempt that tried a
+-- frame, if no rule gave a verdict, or if the attempt had another verdict.
 abbrev pub rule_by : RunSeen → Event → Reply → Option ℕ
 rule_by run (Attempt m v) (reply.Attempted (attempt.Tried a)) = rule_given run (won_by a.winner (word_of a.frame)) v
 rule_by run _ _ = None
@@ -82,8 +83,8 @@ rule_in (Some run) e = rule_by run e.event e.reply
 abbrev pub rule_part : Option RunSeen → Entry → List ℕ
 rule_part faults e = numbered (codes "rule") (rule_in faults e)
 
--- The lines before the line of an entry. If the entry is an attempt that tried a frame, they contain the rules that the bus accepts
--- before it, and a line for each removal of all rules.
+-- The lines before the line of an entry. If the entry is an attempt that tried a frame, they contain the rules that the
+-- bus accepts before it, and a line for each removal of all rules.
 abbrev pub rules_by : RunSeen → Event → Reply → List ℕ
 rules_by run (Attempt m v) (reply.Attempted (attempt.Tried a)) = next_rules run
 rules_by run _ _ = []
@@ -145,8 +146,8 @@ unfoldable pub rules_at_start : Option RunSeen → List ℕ
 rules_at_start None = []
 rules_at_start (Some run) = first_rules run
 
--- The lines after all attempts, if the faults are given: the rules that the bus still accepts, and a line for each removal of all
--- rules.
+-- The lines after all attempts, if the faults are given: the rules that the bus still accepts, and a line for each
+-- removal of all rules.
 unfoldable pub rules_at_end : Option RunSeen → List ℕ
 rules_at_end None = []
 rules_at_end (Some run) = last_rules run

@@ -64,8 +64,8 @@ HasBus text c = (v : Version) × (rest : List ℕ) × HasBusLine v c × (text �
 abbrev pub LacksFront : List ℕ → Type 0
 LacksFront text = (v : Version) (c : BusConfig) (rest : List ℕ) → HasBusLine v c → text ≢ front_lines v c rest
 
--- The text is cut off: it is the beginning of a legal record's text and ends after the lines of this many entries, or within the
--- next line.
+-- The text is cut off: it is the beginning of a legal record's text and ends after the lines of this many entries, or
+-- within the next line.
 pub record IsCutText (text : List ℕ) (count : ℕ) : Type 0 where
   pub config : BusConfig
   pub entries : List Entry
@@ -84,8 +84,8 @@ pub record IsWrongCut (text : List ℕ) (w : WrongLine) : Type 0 where
 abbrev pub IsUncut : List ℕ → Type 0
 IsUncut text = (count : ℕ) → IsCutText text count → ⊥
 
--- What a faulty line says about a text that may be cut off: the text is neither the text of a record nor the beginning of a legal
--- record's text. Lack of memory says nothing about the text.
+-- What a faulty line says about a text that may be cut off: the text is neither the text of a record nor the beginning
+-- of a legal record's text. Lack of memory says nothing about the text.
 abbrev pub FaultsUncut : List ℕ → ReadFault → Type 0
 FaultsUncut text read.NoMemory = Unit {0}
 FaultsUncut text why = Reads text (Err why) × IsUncut text

@@ -41,19 +41,19 @@ counts_part i before after =
 unfoldable pub lost_part : ℕ → ℕ → List ℕ
 lost_part i n = if n == 0 then [] else part (codes "lost" ∷ decimal i ∷ decimal n ∷ [])
 
--- The word for an item that was queued on socket s: the socket's number. If the item is an error message frame, a colon and the
--- frame follow.
+-- The word for an item that was queued on socket s: the socket's number. If the item is an error message frame, a colon
+-- and the frame follow.
 abbrev pub put_word : ℕ → Item → List ℕ
 put_word s (item.Data f) = decimal s
 put_word s (item.Error e) = decimal s ++ 58 ∷ frame_spelling (item.Error e)
 
--- The word for the items that were dropped because socket s had no room, if there are any: the socket's number, a colon and how
--- many items.
+-- The word for the items that were dropped because socket s had no room, if there are any: the socket's number, a colon
+-- and how many items.
 abbrev pub dropped_words : ℕ → ℕ → List (List ℕ)
 dropped_words s n = if n == 0 then [] else (decimal s ++ 58 ∷ decimal n) ∷ []
 
--- The words for the times and the bits of a tried frame: the nanoseconds to its end of frame, the nanoseconds until the next
--- attempt may begin, and how many bits are sent at the nominal and at the data bit rate.
+-- The words for the times and the bits of a tried frame: the nanoseconds to its end of frame, the nanoseconds until the
+-- next attempt may begin, and how many bits are sent at the nominal and at the data bit rate.
 abbrev pub wire_words : BusTiming → CanFrame → Class → Verdict → List (List ℕ)
 wire_words t f class v =
     codes "wire" ∷ decimal (frame_nanos_of t f) ∷ decimal (attempt_nanos_of t f class v)

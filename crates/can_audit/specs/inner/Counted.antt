@@ -14,9 +14,10 @@ use Rattle.can_event.specs.declared.reply.Reply.TheVariants as reply
 use Rattle.can_event.specs.declared.attempt.Tried.{Tried}
 use Rattle.can_event.specs.declared.attempt.Attempt.TheVariants as attempt
 
--- The effect of an entry on the error counts of all interfaces (Bosch CAN Specification 2.0, fault confinement). An attempt by a
--- live interface changes the counts according to its faults. A restart sets the counts of one interface to 0. An attempt also sets
--- the counts to 0 for the interfaces that it restarts. An interface that is taken down keeps its counts and is down.
+-- The effect of an entry on the error counts of all interfaces (Bosch CAN Specification 2.0, fault confinement). An
+-- attempt by a live interface changes the counts according to its faults. A restart sets the counts of one interface to
+-- 0. An attempt also sets the counts to 0 for the interfaces that it restarts. An interface that is taken down keeps
+-- its counts and is down.
 
 -- the interface exists and is neither bus off nor down
 pub record IsLive (nodes : Nodes) (i : ℕ) : Type 0 where

@@ -13,8 +13,8 @@ use Rattle.can_record_text.specs.Values.{HasLine}
 
 -- Compares one entry's line with the line for the reply of a bus.
 
--- This line begins with the line of the next legal entry, and the bus carried out the entry's event. `needs` is the set of features
--- that a version must have to allow this entry.
+-- This line begins with the line of the next legal entry, and the bus carried out the entry's event. `needs` is the set
+-- of features that a version must have to allow this entry.
 pub record IsNext (c : BusConfig) (past : List Entry) (line : List ℕ) (needs : Needs) (bus : Lean) : Type 0 where
   pub entry : Entry
   pub rest : List ℕ

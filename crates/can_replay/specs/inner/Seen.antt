@@ -14,11 +14,11 @@ use Rattle.can_bus.specs.Transmit.{lost_count}
 use Rattle.can_replay.specs.EventsText.{put_words}
 use Rattle.can_replay.specs.Words.{counts_part, lost_part, part_named, dropped_words}
 
--- The state of a bus that is stored before an entry. The effects of the entry are computed from this state and the state after the
--- entry.
+-- The state of a bus that is stored before an entry. The effects of the entry are computed from this state and the
+-- state after the entry.
 
--- The error counts of the 16 possible interfaces, the number of lost frames of each interface, and how many items are waiting and
--- were dropped at each open socket.
+-- The error counts of the 16 possible interfaces, the number of lost frames of each interface, and how many items are
+-- waiting and were dropped at each open socket.
 pub record Seen : Type 0 where
   pub counters : List ErrorCounts
   pub lost : List ℕ
