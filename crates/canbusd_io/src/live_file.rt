@@ -14,7 +14,7 @@ const BLOCK: usize = 65_536;
 /// The part of a file that is kept after a write error.
 #[derive(Debug, Clone, Copy, PartialEq, Eq)]
 pub enum Remains {
-    /// Its whole lines.
+    /// The complete lines are kept.
     WholeLines,
     /// Nothing is kept, because the file would be misleading if a line were missing.
     Nothing,
