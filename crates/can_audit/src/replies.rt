@@ -198,7 +198,7 @@ fn legal_reply(
 fn note(past: &mut Vec<Entry>, event: Event, reply: Reply) -> Result<(), AllocError>
     ensures { OnOk result (past.new.items ≡ past.old.items ++ entry_of event reply ∷ []) }
 {
-    // The checker must see the types inside a reply before a vector takes a reply.
+    // The checker has to see the types inside a reply before an entry is pushed to a vector.
     let _types: Option<(Attempt, Item, Received)> = None;
     past.push(Entry { event, reply })?;
     Ok(())

@@ -112,7 +112,7 @@ still_there old new audit (Err e) kept is = tt
 still_there old new audit (Ok b) kept is = subst (λ (h : Buffered). BecomesOf h old new audit audit) (sym is) (λ w first events u.
     (record { text = u.text; consumed = Consumes-kept first old new u.text u.consumed kept; written = u.written }, [], sym (append-nil u.text)))
 
--- the buffered bytes begin with lines of which one is invalid
+-- one of the complete lines at the start of the buffered bytes is invalid
 held_fault : (v : Wanted) (text events held after : List ℕ) (audit : TextAudit) (why : ReadFault) → HasWritten v text events audit → IsWrongNext audit held why → FaultsUncut (text ++ (held ++ after)) why
 held_fault v text events held after audit why written w =
     let whole : (text ++ w.lines) ++ (w.rest ++ after) ≡ text ++ (held ++ after) =

@@ -344,7 +344,7 @@ TakesMore before lines after =
 abbrev pub TakesLast : TextAudit → List ℕ → TextAudit → Type 0
 TakesLast before torn after = TakesMore before torn after
 
--- the bytes after the last LF are invalid as a line
+-- the bytes after the last LF are not a valid last line
 abbrev pub FaultsLast : TextAudit → List ℕ → ProgramError → Type 0
 FaultsLast audit torn why = (lines : List ℕ) → AreTaken lines audit → Faults (lines ++ torn) why
 
@@ -422,7 +422,7 @@ AuditGoesOn old new before after =
     (w : Wanted) (first : Option (List ℕ)) (events : List ℕ) (u : IsUnderway w first old before events)
     → (on : IsUnderway w first new after events) × (more : List ℕ) × (on.text ≡ u.text ++ more)
 
--- the remaining bytes of the reader have this error after the lines that were taken
+-- the remaining bytes of the reader, which follow the lines that were taken, have this error
 abbrev pub IsAtFault : Option (List ℕ) → TextAudit → ReadFault → Type 0
 IsAtFault now audit why =
     (w : Wanted) (first : Option (List ℕ)) (events : List ℕ) → IsUnderway w first now audit events

@@ -40,7 +40,7 @@ pub enum RunFault {
 }
 
 /// A bus with the names of its interfaces, the plan of its faults, the schedule of its attempts and the current moment. Each method
-/// does the same as the method of a bus or a bench with the same name.
+/// does the same as the corresponding call of a bus or a bench.
 #[derive(Drop)]
 pub struct LocalBus {
     alloc: Global,

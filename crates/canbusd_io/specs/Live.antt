@@ -8,7 +8,7 @@ use Rattle.canbusd_io.specs.declared.whole_lines.WholeLines.{WholeLines}
 -- Files that are written while a server runs. Contracts see the lines that are written to a file. After a file has
 -- ended (`None`), no more lines are written to it.
 
--- the bytes that were written to a writer that counts whole lines
+-- the bytes that were written to a writer that counts complete lines
 abbrev pub whole_contents : {F : Type 0} → (F → Option (List ℕ)) → BufWriter (WholeLines F) Global → Option (List ℕ)
 whole_contents contents w = writer_contents (λ (lines : WholeLines _). contents lines.inner) w
 

@@ -58,7 +58,7 @@ benches-length o (x ∷ xs) (y ∷ ys) are = ap suc (benches-length o xs ys are.
 benches-length o [] (y ∷ ys) are = absurd are
 benches-length o (x ∷ xs) [] are = absurd are
 
--- one more bus has its bit rates
+-- if one more bus with its bit rates is added, all buses have their bit rates
 timed-push : (o : ServeOptions) (bs : List (Bench Perfect Open)) (b : Bench Perfect Open) → AreBusesTimed o bs → b.timing ≡ timing_at o.timings.items (length bs) → AreBusesTimed o (bs ++ b ∷ [])
 timed-push o bs b are here k d low =
     let longer : length (bs ++ b ∷ []) ≡ length bs + 1 = length-append bs (b ∷ []) in

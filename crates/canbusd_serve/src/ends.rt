@@ -11,7 +11,7 @@ use canbusd_options::BusWord;
 use std::alloc::Global;
 use std::io::Write;
 
-/// What is left of a bus when a server ends, which includes the number of its entries.
+/// The final state of a bus, which includes the number of its entries.
 pub trait Ended: Leaves {
     ghost use Rattle.std.specs.Prelude.{◌≡◌, length};
 

@@ -320,7 +320,7 @@ impl<'r, 'a, H: ServerRuntime> ServerRun<'r, 'a, H> {
         mem::replace(&mut *self.faults.lock(self.rt), Vec::new(self.alloc))
     }
 
-    // Serves the buses that consist of these parts, and settles them. Returns the remains of each bus, and the files that were
+    // Serves the buses that consist of these parts, and settles them. Returns the final state of each bus, and the files that were
     // written while the server ran.
     fn settle<N: BusName + Send + Sync, L: Leaves, R: Input, W: Write, E: Write + Send>(
         &self,
