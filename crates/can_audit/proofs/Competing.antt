@@ -25,7 +25,7 @@ use Rattle.can_audit.proofs.Counting.{live-kept}
 
 -- The interface that wins arbitration, and the reply to the attempt.
 
--- one more element of a list is filled in
+-- one more element of the list is set
 pub set_more : (f : ℕ → Option ℕ) (keys new : List (Option ℕ)) (i : ℕ) → i < length keys → ((k : ℕ) → k < i → get_or keys k None ≡ f k) → new ≡ slice_set keys i (f i) → (k : ℕ) → k < i + 1 → get_or new k None ≡ f k
 set_more f keys new i lt so_far is =
     below_more (λ k. get_or new k None ≡ f k) i
@@ -35,7 +35,7 @@ set_more f keys new i lt so_far is =
 pub long_more : (keys new : List (Option ℕ)) (i : ℕ) (x : Option ℕ) → length keys ≡ 16 → new ≡ slice_set keys i x → length new ≡ 16
 long_more keys new i x long is = ap length is ∙ length-set keys i x ∙ long
 
--- the key of an interface's oldest frame is set at its place
+-- the key of an interface's oldest frame is set at the interface's index
 pub competed : (past : List Entry) (keys new : List (Option ℕ)) (place i : ℕ) (head : Option Pending) → i ≡ place → head ≡ head_of past i → new ≡ slice_set keys i (key_in head) → new ≡ slice_set keys place (key_in (head_of past place))
 competed past keys new place i head same head_is set =
     set ∙ ap (λ (p : Option Pending). slice_set keys i (key_in p)) head_is ∙ ap (λ (k : ℕ). slice_set keys k (key_in (head_of past k))) same
@@ -62,7 +62,7 @@ tried-is c past m v w p n nodes j set h restarts won head number are judges =
 pub winner-is_live : (c : BusConfig) (past : List Entry) (w : ℕ) → IsHistory c past → winner c past ≡ Some w → IsLive (kept_nodes c past) w
 winner-is_live c past w h won = let contends = winner-contends c past w won in live-kept c past w h contends.below contends.live
 
--- the attempt of the winner has an outcome, so `None` is impossible
+-- the winner's attempt has an outcome, so `None` is impossible
 pub judged-winner : {P : Type 0} (c : BusConfig) (past : List Entry) (w : ℕ) (v : Verdict) (nodes : Nodes) (j : Option Judgement) → IsHistory c past → winner c past ≡ Some w → nodes ≡ kept_nodes c past → (IsLive nodes w → j ≡ Some (judged (attempt_between nodes w v c.ack))) → j ≡ None → P
 judged-winner c past w v nodes j h won are some none =
     let live : IsLive nodes w = subst (λ (q : Nodes). IsLive q w) (sym are) (winner-is_live c past w h won) in

@@ -34,7 +34,7 @@ use Rattle.can_audit.specs.inner.Counted.{Counts, IsLive, judged_nodes}
 use Rattle.can_event.specs.Replies.{entry_of}
 use Rattle.can_replay.specs.Histories.{before, IsHistory}
 
--- The error counts of all interfaces after one entry and the next.
+-- The error counts of all interfaces after each entry.
 
 -- ---- the sending interface exists and is neither bus off nor down
 
@@ -55,7 +55,7 @@ winner-live c past m v t h w =
 pub earlier : (c : BusConfig) (e : Entry) (past : List Entry) → IsHistory c (e ∷ past) → IsHistory c past
 earlier c e past h = record { proper = h.proper; legal = h.legal.2 }
 
--- ---- the counts after an entry
+-- ---- the error counts after an entry
 
 counts-tried : (c : BusConfig) (past : List Entry) (m : ℕ) (v : Verdict) (t : Tried) (i : ℕ)
     → counts_of c (entry_of (Attempt m v) (reply.Attempted (attempt.Tried t)) ∷ past) i ≡ (if is_in i t.restarted then at_start else counts_after (transmission c past t.winner v) i)
@@ -112,7 +112,7 @@ tried-law c past e t old new h law are =
     let live : IsLive old t.winner = subst (λ (n : Nodes). IsLive n t.winner) (sym are) (winner-live c past m v t h w) in
     nodes-tried c past m v t old new h are (counted live))
 
--- a restart with this reply is for an interface that exists
+-- if a restart has this reply, the interface exists
 restart-below : (c : BusConfig) (past : List Entry) (i m : ℕ) → reply.Done ≡ legal_reply c past (Restart i m) → i < c.ifaces
 restart-below c past i m law = when (nat_le c.ifaces i) refl law
   where
@@ -127,7 +127,7 @@ down-below c past i m law = when (nat_le c.ifaces i) refl law
     when true above l = cc
     when false below l = leb-false c.ifaces i below
 
--- an interface that is taken down keeps its counts, and so do the others
+-- an interface that is taken down keeps its error counts, and so does every other interface
 counts-down : (c : BusConfig) (past : List Entry) (i m : ℕ) → counts_of c (entry_of (Down i m) reply.Done ∷ past) i ≡ stepped (counts_of c past i) TakenDown
 counts-down c past i m =
     ap (all_stepped at_start) (cond-true (i == i) (steps_of c past i ++ TakenDown ∷ []) (steps_of c past i) (eq-eqb i i refl))
@@ -162,7 +162,7 @@ counted-kept c past (Attempt m v) _ old new h law are counted = counted ∙ are
 counted-kept c past (Restart i m) _ old new h law are counted = counted ∙ are
 counted-kept c past (Down i m) _ old new h law are counted = counted ∙ are
 
--- ---- one entry after another
+-- ---- the error counts after successive entries
 
 pub counts-as : (c : BusConfig) (e : Event) (r : Reply) (old new : Nodes) (m : ℕ) (v : Verdict) (a : AnAttempt) → e ≡ Attempt m v → r ≡ reply.Attempted a → Counts c (Attempt m v) (reply.Attempted a) old new → Counts c e r old new
 counts-as c e r old new m v a event_is reply_is counted =
@@ -184,10 +184,10 @@ counted_more c es k e old new lt read so_far counted h =
     let past : IsHistory c (before es k) = earlier c e (before es k) here in
     counted-kept c (before es k) e.event e.reply old new past here.legal.1 (so_far past) counted ∙ ap (kept_nodes c) (sym more)
 
--- the state of an interface, from the counts that are kept
+-- the state of an interface, from the stored error counts
 pub state-kept : (c : BusConfig) (past : List Entry) (nodes : Nodes) (i : ℕ) → i < 16 → nodes ≡ kept_nodes c past → state_of (counts_at nodes i) ≡ state_at c past i
 state-kept c past nodes i few are = ap (λ (n : Nodes). state_of (counts_at n i)) are ∙ ap state_of (counts_at-kept c past i few)
 
--- whether an interface is bus off or down
+-- whether an interface is bus off or down, from the stored error counts
 pub silent-kept : (c : BusConfig) (past : List Entry) (nodes : Nodes) (i : ℕ) (silent : Bool) → i < 16 → nodes ≡ kept_nodes c past → silent ≡ is_silent (state_of (counts_at nodes i)) → silent ≡ is_silent (state_at c past i)
 silent-kept c past nodes i silent few are is = is ∙ ap is_silent (state-kept c past nodes i few are)

@@ -9,7 +9,7 @@ use Rattle.can_bus.specs.Posts.{Post, is_own}
 use Rattle.can_bus.specs.Queues.{passing}
 use Rattle.can_bus.proofs.Filling.{passing-append}
 
--- one more post is checked: it passes or does not pass
+-- one more post is checked: it passes the filters and options, or it does not
 pub passing_more : (fs : List CanFilter) (o : Options) (s : ℕ) (posts : List Post) (k : ℕ) (p : Post) (now new : List Received) (wanted : Bool) → k < length posts
     → p ≡ get_or posts k p → wanted ≡ wants fs o p.received.item (is_own p.sender s) → now ≡ passing fs o s (take k posts)
     → new ≡ (if wanted then now ++ p.received ∷ [] else now) → new ≡ passing fs o s (take (k + 1) posts)
@@ -26,7 +26,7 @@ passing_more fs o s posts k p now new wanted lt read asked so_far stepped =
     choose true = refl
     choose false = sym (append-nil (passing fs o s (take k posts)))
 
--- an item is added at the end, or left out
+-- an item is appended to the list, or left out
 pub pushed : (b : Bool) (xs new : List Received) (x : Received) → b ≡ true → new ≡ xs ++ x ∷ [] → new ≡ (if b then xs ++ x ∷ [] else xs)
 pushed b xs new x is_true is = is ∙ sym (cond-true b _ _ is_true)
 

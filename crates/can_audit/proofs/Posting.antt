@@ -21,7 +21,7 @@ use Rattle.can_replay.specs.Histories.{IsHistory}
 use Rattle.can_audit.specs.inner.Counted.{IsLive}
 use Rattle.can_audit.proofs.Counting.{earlier, winner-live}
 
--- the items that an attempt of the record posts to the sockets, given the interfaces and the frame before it
+-- the items that an attempt in the record posts to the sockets, given the interfaces and the frame before the attempt
 pub tried-posts : (c : BusConfig) (past : List Entry) (m : ℕ) (v : Verdict) (t : Tried) (i : ℕ) (nodes : Nodes) (p : Option Pending)
     → IsHistory c (entry_of (Attempt m v) (reply.Attempted (attempt.Tried t)) ∷ past) → nodes ≡ kept_nodes c past → p ≡ slice_get (sent_by past t.winner) t.number
     → attempt_posts c.reporting (attempt_between nodes t.winner v c.ack) t p i ≡ attempt_posts c.reporting (transmission c past t.winner v) t (slice_get (sent_by past t.winner) t.number) i

@@ -28,7 +28,7 @@ use Rattle.can_event.specs.Replies.{entry_of}
 use Rattle.can_replay.specs.Histories.{IsHistory}
 use Rattle.can_replay.specs.Replies.{reply_after, entries_after, replies_after}
 
--- Each reply follows from the entries before it.
+-- Every reply follows from the entries before it.
 
 -- ---- restarts
 
@@ -44,7 +44,7 @@ restart-live c past i m nodes silent h below are is live =
 
 -- ---- calls on an open socket
 
--- the socket is open, since its number is in the list
+-- the socket is open, because its number is in the list
 pub opened : (past : List Entry) (numbers : List ℕ) (s : ℕ) (found : Bool) → numbers ≡ open_sockets past → found ≡ list_any (λ k. k == s) numbers → found ≡ is_open past s
 opened past numbers s found are is = is ∙ ap (list_any (λ k. k == s)) are
 
@@ -115,7 +115,7 @@ pub record IsUp (c : BusConfig) (past : List Entry) (i : ℕ) : Type 0 where
 pub is-up : (c : BusConfig) (past : List Entry) (i : ℕ) (state : State) (off down : Bool) → state ≡ state_at c past i → off ≡ is_off state → off ≡ false → down ≡ is_down state → down ≡ false → IsUp c past i
 is-up c past i state off down at is not_off is_too not_down = record { off = ap is_off (sym at) ∙ sym is ∙ not_off; down = ap is_down (sym at) ∙ sym is_too ∙ not_down }
 
--- the frames accepted for sending, and the number of frames that have left
+-- the frames accepted for sending, and how many of them have left the queue
 pub record IsQueue (past : List Entry) (i sent gone : ℕ) : Type 0 where
   pub sent_is : sent ≡ length (sent_by past i)
   pub gone_is : gone ≡ gone_count past i
@@ -136,7 +136,7 @@ sent-taken c past s f i sent gone n on may up queue room free =
     ap (λ (k : ℕ). reply.Sent k) queue.sent_is
     ∙ sym (cond-false (is_off (state_at c past i)) _ _ up.off ∙ cond-false (is_down (state_at c past i)) _ _ up.down ∙ cond-false (length (sent_by past i) - gone_count past i == c.tx_capacity) _ _ is_free) ∙ on-open c past s f i on may
 
--- ---- one event after another
+-- ---- the reply to each kind of event
 
 pub full-reply : (c : BusConfig) (past : List Entry) (e : Event) → c.limit ≤ length past → reply.Refused refusal.RecordFull ≡ reply_after c past e
 full-reply c past e full = sym (cond-true (nat_le c.limit (length past)) _ _ (le-leb c.limit (length past) full))

@@ -38,7 +38,7 @@ among-due c past i = swap (nat_lt i c.ifaces) (is_due c past i)
 pub due-all : (c : BusConfig) (past : List Entry) (set : IfaceSet) → set.0 ≡ bits_where (is_due_at c past) 16 → set ≡ restarted_next c past
 due-all c past set is = ap (λ (n : ℕ). record { 0 = n }) (is ∙ bits_where_same _ _ 16 (λ i lt. among-due c past i))
 
--- ---- attempts since an interface went bus off, one entry after another
+-- ---- the number of attempts since an interface went bus off, after successive entries
 
 pub off-more : (es : List Entry) (k : ℕ) (e : Entry) (i : ℕ) (old new : Option ℕ) → k < length es → e ≡ get_or es k e
     → old ≡ attempts_off (before es k) i → new ≡ attempts_off_after e.event e.reply i old → new ≡ attempts_off (before es (k + 1)) i

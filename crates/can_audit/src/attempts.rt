@@ -20,7 +20,7 @@ use std::alloc::{AllocError, Global};
 
 // Computes the reply to an attempt from the entries before it.
 
-/// Gives an arbiter the frame with which an interface competes, or clears the interface's place if it has no frame.
+/// Passes the arbitration key of an interface's next frame to an arbiter, or clears the interface's key if it has no frame.
 fn compete<A: Arbiter>(arbiter: &mut A, iface: Iface, head: Option<Pending>)
     ensures { A.keys_of arbiter.new ≡ slice_set (A.keys_of arbiter.old) iface (key_in head) }
 {
@@ -52,7 +52,7 @@ fn winner(alloc: Global, past: &[Entry]) -> Result<Option<Iface>, AllocError>
     Ok(first)
 }
 
-/// Returns the reply to an attempt that had this outcome.
+/// Returns the reply to an attempt with this outcome.
 fn tried_as(
     moment: Moment,
     winner: Iface,

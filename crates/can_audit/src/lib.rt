@@ -1,13 +1,9 @@
-//! A slow reference for tests. This crate also re-exports the text and the audit of records, which have their own crates.
-//!
-//! The program uses `can_record_text` and `can_replay` directly, so its build does not have to prove this reference.
-//!
-//! The reference is slow because it filters and counts the list of entries anew for each question. It has one function for each
-//! definition of `can_bus`.
-//!
-//! `replies_of` computes the replies of a bus to a list of events in a different way from the bus itself. `queued`, `candidates`
-//! and `projected` return the items of a record that reached a socket. The running time grows at least with the square of the
-//! number of entries.
+//! A slow reference implementation for tests. This crate also re-exports the text format and the audit of records, which have their
+//! own crates. The program uses `can_record_text` and `can_replay` directly, so its build does not have to prove this reference.
+//! The reference is slow because it filters and counts the list of entries again for every query. It has one function for each
+//! definition in `can_bus`. `replies_of` computes the replies of a bus to a list of events in a different way from the bus itself.
+//! `queued`, `candidates` and `projected` return the items of a record that reached a socket. The running time grows at least with
+//! the square of the number of entries.
 #![tactic(auto)]
 
 mod attempts;

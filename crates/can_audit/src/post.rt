@@ -41,7 +41,7 @@ impl Model for Post {
     ghost inverse = { λ v. record { received = v.received; sender = v.sender } };
 }
 
-/// Returns the number of the socket that sent a pending frame, if there is one.
+/// Returns the number of the socket that sent a pending frame, if there is a pending frame.
 fn sender_in(pending: &Option<Pending>) -> Option<u32>
     ensures { result ≡ sender_in pending.now }
 {
@@ -151,7 +151,7 @@ fn idle_posts(
     Ok(posts)
 }
 
-/// Returns the items that an attempt at this moment posts to the sockets of an interface. The attempt tried a frame.
+/// Returns the items that an attempt at this moment posts to the sockets of an interface. The attempt must have tried a frame.
 fn tried_posts(
     alloc: Global,
     config: BusConfig,
@@ -255,7 +255,7 @@ fn item_of(post: &Post) -> Received
     post.received
 }
 
-/// Returns whether a post passes these filters and options.
+/// Returns whether a post passes these filters and options of a socket.
 fn is_wanted(filters: &FilterSet, options: &Options, id: SocketId, post: &Post) -> bool
     ensures { result ≡
         wants filters.now options.now post.now.received.item (is_own post.now.sender id.0) }

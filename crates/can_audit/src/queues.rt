@@ -114,7 +114,7 @@ fn admit(arrivals: &mut Arrivals, room: u128, candidates: &[Received]) -> Result
     Ok(())
 }
 
-/// Returns the item at this index, if there is one.
+/// Returns the item at index `place`, if there is one.
 pub(crate) fn item_at(items: &[Received], place: usize) -> Option<Received>
     ensures { result ≡ slice_get items.now place }
 {
@@ -145,7 +145,7 @@ pub(crate) fn arrivals_at(
     Ok(arrivals)
 }
 
-/// Returns the items that were queued on a socket, in order, including items that were taken later. A socket that was never opened
+/// Returns all items that were queued on a socket, in order, including items that were taken later. A socket that was never opened
 /// has none. If no bus could have made the record, nothing is proved about the result. The running time grows with the cube of the
 /// number of entries.
 pub fn queued(alloc: Global, record: &Record, id: SocketId) -> Result<Vec<Received>, AllocError>
@@ -175,7 +175,7 @@ fn is_from(iface: Iface, received: &Received) -> bool
     }
 }
 
-/// Returns the data frames of one interface that were queued on a socket, in order. Each has its number at that interface. If no
+/// Returns the data frames from one interface that were queued on a socket, in order. Each has its number at that interface. If no
 /// bus could have made the record, nothing is proved about the result. The running time grows with the cube of the number of
 /// entries.
 pub fn projected(

@@ -33,7 +33,7 @@ pub enum ReplayFault {
     NoMemory,
 }
 
-/// Returns the reply to an open.
+/// Returns the reply to an event that opens a socket.
 fn open_reply(
     alloc: Global,
     config: BusConfig,
@@ -57,7 +57,7 @@ fn open_reply(
     Ok(Reply::Opened(SocketId(sockets.places.len() as u32)))
 }
 
-/// Returns the reply to a close.
+/// Returns the reply to an event that closes a socket.
 fn close_reply(
     alloc: Global,
     config: BusConfig,
@@ -94,7 +94,7 @@ fn lacks_fd(past: &[Entry], id: SocketId, frame: Frame) -> bool
     frame.is_fd() && !options_of(past, id).fd
 }
 
-/// Returns the reply to a send.
+/// Returns the reply to an event that sends a frame.
 fn send_reply(
     alloc: Global,
     config: BusConfig,
@@ -127,7 +127,7 @@ fn send_reply(
     Ok(Reply::Sent(sent as u64))
 }
 
-/// Returns the reply to a receive.
+/// Returns the reply to an event that receives an item.
 fn receive_reply(
     alloc: Global,
     config: BusConfig,
@@ -144,7 +144,7 @@ fn receive_reply(
     Ok(Reply::Received(item_at(&arrivals.queued, taken)))
 }
 
-/// Returns the reply to a restart.
+/// Returns the reply to an event that restarts an interface.
 fn restart_reply(config: BusConfig, past: &[Entry], iface: Iface) -> Reply
     ensures { (m : ℕ) →
         OnHistory config past.now (λ h. result ≡ legal_reply config h (event.Restart iface m)) }
@@ -171,7 +171,7 @@ fn down_reply(config: BusConfig, iface: Iface) -> Reply
     }
 }
 
-/// Returns the reply to an event after these entries, if the record has space for another entry.
+/// Returns the reply to an event after these entries, if the record has room for another entry.
 fn legal_reply(
     alloc: Global,
     config: BusConfig,
@@ -198,7 +198,7 @@ fn legal_reply(
 fn note(past: &mut Vec<Entry>, event: Event, reply: Reply) -> Result<(), AllocError>
     ensures { OnOk result (past.new.items ≡ past.old.items ++ entry_of event reply ∷ []) }
 {
-    // The checker must see the types inside a reply before a vector takes a reply.
+    // The checker has to see the types inside a reply before an entry is pushed to a vector.
     let _types: Option<(Attempt, Item, Received)> = None;
     past.push(Entry { event, reply })?;
     Ok(())
@@ -240,8 +240,8 @@ fn replies(alloc: Global, events: &[Event], config: BusConfig) -> Result<Vec<Rep
 }
 
 /// Returns the replies of a new bus with this configuration to these events, one reply for each event, in order. Each reply follows
-/// from the entries before it. After the entries have reached the limit, each reply is `RecordFull`. The result is `BadConfig`
-/// exactly if no bus can have this configuration. The running time grows with the fourth power of the number of events.
+/// from the entries before it. After the entries have reached the limit, every reply is `RecordFull`. The result is `BadConfig` if
+/// and only if no bus can have this configuration. The running time grows with the fourth power of the number of events.
 pub fn replies_of(
     alloc: Global,
     events: &[Event],

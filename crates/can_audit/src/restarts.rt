@@ -8,7 +8,7 @@ use can_frame::{Iface, IfaceSet};
 
 // Computes the interfaces that an attempt restarts from the entries before it.
 
-/// Adds one attempt to the count, if there is a count.
+/// Adds one attempt to the count, or returns `None` if there is no count.
 fn one_more(before: Option<usize>) -> Option<usize>
     requires { IfSome before (λ k. k < 2 ^ 63) }
     ensures { result ≡ option_map suc before }

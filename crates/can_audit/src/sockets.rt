@@ -113,7 +113,7 @@ fn note(sockets: &mut Sockets, entry: &Entry) -> Result<(), AllocError>
     Ok(())
 }
 
-/// Returns the sockets after these entries, which are in order, the oldest first.
+/// Returns the sockets after these entries, which are ordered from the oldest to the newest.
 pub fn sockets_of(alloc: Global, past: &[Entry]) -> Result<Sockets, AllocError>
     ensures places { IfOk result (λ s. s.places.items ≡ places (reverse past.now)) }
     ensures open { IfOk result (λ s. s.numbers.items ≡ open_sockets (reverse past.now)) }

@@ -11,7 +11,7 @@ use Rattle.can_bus.specs.Legal.{legal_reply}
 use Rattle.can_bus.specs.Run.{IsAnswer, AreAnswers, history_after}
 use Rattle.can_replay.specs.Replies.{reply_after, entries_after, replies_after}
 
--- A bus answers successive events as the entries do.
+-- The bus's reply to an event, and the history after the event, are as `reply_after` and `entries_after` define them.
 
 pub record Answers (c : BusConfig) (past : List Entry) (e : Event) (r : Reply) : Type 0 where
   pub reply : r ≡ reply_after c past e

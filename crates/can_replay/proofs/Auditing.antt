@@ -20,7 +20,7 @@ use Rattle.can_replay.specs.Audits.{IsFirstWrongEntry, IsToldWrong, Blames, faul
 use Rattle.can_replay.specs.Histories.{before}
 use Rattle.can_replay.proofs.EntriesBefore.{before_more, legal_front}
 
--- A bus carries out successive entries as long as they are legal.
+-- A bus carries out the entries in order, as long as they are legal.
 
 -- Entry k is read, after a legal history.
 record Read (c : BusConfig) (es : List Entry) (k : ℕ) (e : Entry) : Type 0 where
@@ -95,7 +95,7 @@ entered v (reply.Refused refusal.RecordFull) past fits = absurd (cc (fits))
 entered v (reply.Refused refusal.NoMemory) past fits = absurd (cc (fits))
 entered v r past fits = refl
 
--- The bus's reply is the entry's reply: the bus goes on to the next entry.
+-- The bus's reply equals the entry's reply: the bus continues with the next entry.
 pub replayed_more : (es : List Entry) (k : ℕ) (e : Entry) (bus after : Lean) (r : Reply) → k < length es → e ≡ get_or es k e → FitsReply e.event e.reply → r ≡ e.reply → IsAfter bus (before es k)
     → ((past : List Entry) → IsAfter bus past → IsAfter after (history_after e.event r past)) → IsAfter after (before es (k + 1))
 replayed_more es k e bus after r below read fits same so_far more =
@@ -133,7 +133,7 @@ take_take [] (suc j) (suc k) le = refl
 take_take (e ∷ es) (suc j) zero le = absurd (omega (arith, le))
 take_take (e ∷ es) (suc j) (suc k) le = ap (λ (xs : List Entry). e ∷ xs) (take_take es j k (omega (arith, le)))
 
--- No entry before the first wrong entry is wrong.
+-- No entry before the first wrong entry is itself a first wrong entry.
 none-before : (c : BusConfig) (es : List Entry) (j k : ℕ) → j < k → IsFirstWrongEntry c es j → IsFirstWrongEntry c es k → ⊥
 none-before c es j k lt f g =
     let all = legal_front c (take k es) (j + 1) g.legal_before in

@@ -1,4 +1,4 @@
--- The first lines, the last line, and the result for a text that has ended.
+-- The first lines, the last line, and the result of the audit at the end of a text.
 use Rattle.std.proofs.Common.{◌≡◌, ◌≢◌, ◌==◌, ◌^◌, ◌<◌, ◌+◌, ℕ, Bool, true, false, List, [], ◌∷◌, ◌++◌, length, drop, Some, None, Result, Ok, Err, IfErr, OnOk, inl, inr, refl, sym, ap, subst, ◌∙◌}
 use Rattle.std.proofs.lemmas.List.{append-nil}
 use Rattle.std.proofs.lemmas.List.Elements.{All-nil}
@@ -63,7 +63,7 @@ begun_at v c line rest bus needs good is_after new config nothing is = record {
 pub no_bus : (v : Version) (line after : List ℕ) → LacksBus v line → MayFollow line after → IsFirstWrong (first_line v ++ (line ++ after)) 2
 no_bus v line after lacks may = first_is_wrong v (first_line v ++ (line ++ after)) (line ++ after) refl (lacks_bus v line after may lacks)
 
--- ---- the text continues after the lines that were read
+-- ---- the text continues after the lines that were already read
 
 open_text : (b : Bool) (v : Version) (c : BusConfig) (es : List Entry) (more : List ℕ) → b ≡ false → so_far b v c es ++ more ≡ front_lines v c (entry_lines es more)
 open_text true v c es more is = absurd cc
@@ -129,7 +129,7 @@ ended text line b bus g going few is is_after =
       is_after = λ no none. absurd cc;
     }
 
--- The end line is taken, after it could not be read as an entry.
+-- The line could not be read as an entry, and was then read as the end line.
 pub end_taken : (line : List ℕ) (old mid new : EntryAudit) (r : Result (Unit {0}) ReadFault) → mid ≡ record old { bus = mid.bus } → old.is_ended ≡ false → mid.count < 2 ^ 64 → OnOk r (new ≡ record mid { is_ended = true }) → OnOk r (IsEndLine mid.count line)
     → OnOk r ((text : List ℕ) → IsGoing text old → IsLine line → IsGoing (text ++ line) new)
 end_taken line old mid new (Ok u) kept going few h end = λ text g is.
@@ -145,7 +145,7 @@ end_lacks line old mid (Err why) kept going few lacks h = λ text after g is may
     let count : mid.count ≡ old.count = ap (λ (b : EntryAudit). b.count) kept in
     unended text line after old why g going (subst (λ (n : ℕ). n < 2 ^ 64) count few) may (lacks text g going) (subst (λ (n : ℕ). IsUnended n line why) count h)
 
--- ---- the text has ended
+-- ---- the end of the text
 
 pub nothing_lacks : (v : Version) (c : BusConfig) → LacksEntry v c []
 nothing_lacks v c e more good is = none-some e (sym nothing_is_none ∙ ap entry_at is ∙ entry_again v c e more good)
@@ -204,7 +204,7 @@ one_wrong text b w g end needed some = record {
   wrong = subst (IsSettled b.config g.read.entries) some g.read.settled;
 }
 
--- ---- the text has ended, and may be cut off
+-- ---- the end of a text that may be cut off
 
 front_is : (text torn : List ℕ) (b : EntryAudit) (g : IsGoing text b) → b.is_ended ≡ false → EndsNoLine torn → IsFrontOf (text ++ torn) b.config g.read.entries
 front_is text torn b g going h = record {
@@ -236,7 +236,7 @@ cut_wrong text torn b w g going h some = record {
   wrong = subst (IsSettled b.config g.read.entries) some g.read.settled;
 }
 
--- No bytes follow a text that has its end line.
+-- No bytes follow the end line of the text.
 pub whole_legal : (text torn : List ℕ) (count : ℕ) → torn ≡ [] → IsLegalText text count → IsLegalText (text ++ torn) count
 whole_legal text torn count none h = subst (λ (x : List ℕ). IsLegalText x count) (sym (ap (λ (x : List ℕ). text ++ x) none ∙ append-nil text)) h
 
@@ -244,7 +244,7 @@ pub some_torn : (torn : List ℕ) → false ≡ (length torn == 0) → torn ≢ 
 some_torn [] is none = absurd cc
 some_torn (x ∷ xs) is none = absurd cc
 
--- A text that has its end line is not cut off.
+-- A text that contains its end line is not cut off.
 pub not_cut : (text torn : List ℕ) (b : EntryAudit) → IsGoing text b → b.is_ended ≡ true → IsUncut (text ++ torn)
 not_cut text torn b g end = ended_uncut text torn b.version b.config g.read.entries g.read.good (g.read.begins ∙ ended_text b.is_ended b.version b.config g.read.entries end)
 

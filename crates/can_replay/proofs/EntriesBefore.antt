@@ -6,7 +6,7 @@ use Rattle.can_bus.specs.Legal.{IsLegal}
 use Rattle.can_bus.proofs.LifeFacts.{legal-before}
 use Rattle.can_replay.specs.Histories.{before}
 
--- A list of entries is read in order: each entry extends the history by one entry.
+-- Reading entry k extends the history by this entry.
 
 pub before_more : (es : List Entry) (k : ℕ) (e : Entry) → k < length es → e ≡ get_or es k e → before es (k + 1) ≡ e ∷ before es k
 before_more es k e lt read =

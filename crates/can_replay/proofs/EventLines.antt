@@ -1,4 +1,4 @@
--- The events of one more line.
+-- The events that one more line of the record adds.
 use Rattle.std.proofs.Common.{◌≡◌, ◌≢◌, ◌≤◌, ◌+◌, ◌-◌, ◌&&◌, not, ℕ, Bool, true, false, All, List, [], ◌∷◌, ◌++◌, length, take, Option, Some, None, IfOk, Result, Ok, Err, inl, inr, append_assoc, length-append, refl, sym, ap, subst, ◌∙◌, arith}
 use Rattle.std.specs.Prelude.{codes, reverse}
 use Rattle.std.proofs.Math.Seq.{take-append_seam}
@@ -43,7 +43,7 @@ use Rattle.can_replay.proofs.LineEnds.{event_words_then}
 use Rattle.can_replay.proofs.Taking.{told_more}
 use Rattle.can_replay.proofs.Uncut.{words_end}
 
--- ---- the legal part of the entries
+-- ---- the legal entries at the front of the record
 
 -- Legal entries contain no wrong entry.
 after_legal : (c : BusConfig) (es more : List Entry) (k : ℕ) → IsLegal c (reverse es) → IsFirstWrongEntry c (es ++ more) k → length es ≤ k
@@ -55,7 +55,7 @@ after_legal c es more k legal f =
       | inr le ↦ le
     ]
 
--- Entries after a wrong entry do not change the legal part.
+-- Entries after a wrong entry do not change the legal entries at the front.
 part_stays : (c : BusConfig) (es more : List Entry) (o p : Option WrongLine) → is_none o ≡ false → IsSettled c es o → IsSettled c (es ++ more) p → legal_part (es ++ more) p ≡ legal_part es o
 part_stays c es more None p some old new = absurd cc
 part_stays c es more (Some w) None some old new = absurd (none-wrong c (es ++ more) w.place new (told_more c es more w.place w.legal old.told).first)
@@ -65,14 +65,14 @@ part_stays c es more (Some w) (Some u) some old new =
     let below = slice_get_within es w.place old.told.first.entry old.told.first.there in
     ap (λ (n : ℕ). take n (es ++ more)) same ∙ take-append-le w.place es more (omega (arith, below))
 
--- Two results for the same entries give the same legal part.
+-- Two audit results for the same entries give the same legal entries.
 part_same : (c : BusConfig) (es : List Entry) (o p : Option WrongLine) → IsSettled c es o → IsSettled c es p → legal_part es p ≡ legal_part es o
 part_same c es None None old new = refl
 part_same c es None (Some w) old new = absurd (none-wrong c es w.place old new.told.first)
 part_same c es (Some w) None old new = absurd (none-wrong c es w.place new old.told.first)
 part_same c es (Some w) (Some u) old new = ap (λ (n : ℕ). take n es) (one-first c es u.place w.place new.told.first old.told.first)
 
--- If one more entry is the first wrong one, the legal part has all entries before it.
+-- If one more entry is the first wrong one, all entries before it are legal.
 part_ends : (c : BusConfig) (es : List Entry) (e : Entry) (o p : Option WrongLine) → is_none o ≡ true → is_none p ≡ false → IsSettled c es o → IsSettled c (es ++ e ∷ []) p → legal_part (es ++ e ∷ []) p ≡ legal_part es o
 part_ends c es e (Some w) p none some old new = absurd cc
 part_ends c es e None None none some old new = absurd cc
@@ -87,7 +87,7 @@ part_whole : (es : List Entry) (o : Option WrongLine) → is_none o ≡ true →
 part_whole es None none = refl
 part_whole es (Some w) none = absurd cc
 
--- ---- the events of a line
+-- ---- the events that belong to a line
 
 ends_line : (ws : List (List ℕ)) → ws ≢ [] → (q : List ℕ) × (spell ws [] ≡ q ++ 10 ∷ [])
 ends_line [] some = absurd (some refl)
@@ -161,13 +161,13 @@ none_asked run (SetOption s o) r plain = refl
 none_asked run (Send s f) r plain = refl
 none_asked run (Receive s) r plain = refl
 
--- An entry asks no rule if it is not an attempt, a restart or a down.
+-- If an entry is not an attempt, a restart or a down, no fault rule is queried for it.
 plain_asked : (faults : Option RunSeen) (e : Entry) → is_step e.event ≡ false → asked_of faults e ≡ faults
 unfolding asked_of
 plain_asked None e plain = refl
 plain_asked (Some run) e plain = ap Some (none_asked run e.event e.reply plain)
 
--- An entry that is not an attempt, a restart or a down has its line only, with no effects.
+-- For an entry that is not an attempt, a restart or a down, only its own line is written, without effects.
 pub plain_line : (w : Wanted) (c : BusConfig) (past : List Entry) (e : Entry) → is_step e.event ≡ false → events_line w c past e ≡ entry_line e []
 unfolding with_parts
 plain_line w c past e plain =
@@ -180,7 +180,7 @@ plain_line w c past e plain =
     ∙ ap (λ (x : List ℕ). unended (entry_line e []) ++ [] ++ [] ++ x ++ 10 ∷ []) (no_rule faults e plain)
     ∙ none ∙ unended_line (entry_line e []) end.0 end.1
 
--- ---- the events of the lines
+-- ---- the events that belong to several lines
 
 is_going : (a b : Bool) → (not a && b) ≡ true → (a ≡ false) × (b ≡ true)
 is_going true b h = absurd cc
@@ -192,21 +192,21 @@ never b h k = absurd cc
 settled_in : (text : List ℕ) (b : EntryAudit) (g : IsGoing text b) (c : BusConfig) (es : List Entry) → b.config ≡ c → g.read.entries ≡ es → IsSettled c es b.wrong
 settled_in text b g c es config are = subst (λ (x : BusConfig). IsSettled x es b.wrong) config (subst (λ (xs : List Entry). IsSettled b.config xs b.wrong) are g.read.settled)
 
--- A line had no effect: the legal entries are the same as before the line.
+-- The line added no legal entry: the legal entries are the same as before the line.
 pub record NothingMore (text line : List ℕ) (old new : EntryAudit) (g : IsGoing text old) (h : IsGoing (text ++ line) new) : Type 0 where
   pub version : new.version ≡ old.version
   pub config : new.config ≡ old.config
   pub past : legal_past (text ++ line) new h ≡ legal_past text old g
 
 module _ (text line : List ℕ) (old new : EntryAudit) (g : IsGoing text old) (h : IsGoing (text ++ line) new) (is : IsLine line) where
-  -- The end line has no effect.
+  -- The end line adds no entry.
   no_more : (more : List Entry) → new.version ≡ old.version → new.config ≡ old.config → h.read.entries ≡ g.read.entries ++ more → more ≡ [] → NothingMore text line old new g h
   no_more more v c are none =
       let same : h.read.entries ≡ g.read.entries = are ∙ ap (λ (x : List Entry). g.read.entries ++ x) none ∙ append-nil g.read.entries in
       let part = ap (λ (x : List Entry). legal_part x new.wrong) same ∙ part_same old.config g.read.entries old.wrong new.wrong g.read.settled (settled_in (text ++ line) new h old.config g.read.entries c same) in
       record { version = v; config = c; past = ap (λ (x : List Entry). reverse x) part }
 
-  -- A line after the end line or after a wrong entry has no effect.
+  -- A line after the end line or after a wrong entry adds no legal entry.
   after_wrong : (b : Bool) → old.is_ended ≡ b → (not b && is_none old.wrong) ≡ false → NothingMore text line old new g h
   after_wrong true ended stopped =
       let on = goes_on text line old new g h in
@@ -224,7 +224,7 @@ module _ (text line : List ℕ) (old new : EntryAudit) (g : IsGoing text old) (h
   not_ended true es none = absurd cc
   not_ended false es none = refl
 
-  -- A line that ends the legal part is the end line or the line of a wrong entry.
+  -- If no legal entry can follow a line, it is the end line or the line of a wrong entry.
   pub nothing_legal : is_legal_yet old ≡ true → is_legal_yet new ≡ false → NothingMore text line old new g h
   nothing_legal legal stopped =
       let on = goes_on text line old new g h in
@@ -240,7 +240,7 @@ module _ (text line : List ℕ) (old new : EntryAudit) (g : IsGoing text old) (h
             record { version = on.version; config = on.config; past = ap (λ (x : List Entry). reverse x) part }
       ]
 
--- The line of one more legal entry.
+-- The line contains one more legal entry.
 pub record OneMore (text line : List ℕ) (old new : EntryAudit) (g : IsGoing text old) (h : IsGoing (text ++ line) new) : Type 0 where
   pub entry : Entry
   pub past : List Entry
@@ -291,9 +291,9 @@ one_more text line old new g h is legal legal_too =
           }
     ]
 
--- ---- one more line is written
+-- ---- writing the events of one more line
 
--- These are the events of the legal entries, and `now` is the wanted value after them.
+-- These are the events of the legal entries. `now` stores which parts are wanted after these entries.
 abbrev pub IsUpTo : (w : Wanted) (text : List ℕ) (b : EntryAudit) → IsGoing text b → List ℕ → Wanted → Type 0
 IsUpTo w text b g events now = (events ≡ events_of w text b g) × (now ≡ wanted_after w (legal_past text b g))
 
@@ -330,7 +330,7 @@ written_more : (cleared old new line before after : List ℕ) → cleared ++ old
 written_more cleared old new line before after complete wrote is =
     ap (λ (x : List ℕ). cleared ++ x) wrote ∙ sym (append_assoc cleared old line) ∙ ap (λ (x : List ℕ). x ++ line) complete ∙ sym is
 
--- The line of an entry without effects is written unchanged.
+-- The line of an entry without effects is written as in the record.
 pub plain_more : (w : Wanted) (text line : List ℕ) (old new : EntryAudit) (g : IsGoing text old) (h : IsGoing (text ++ line) new) (cleared before after : List ℕ) (now : Wanted) (one : OneMore text line old new g h) → is_step one.entry.event ≡ false → after ≡ before ++ line
     → cleared ++ before ≡ events_of w text old g → now ≡ wanted_after w (legal_past text old g) → IsUpTo w (text ++ line) new h (cleared ++ after) now
 plain_more w text line old new g h cleared before after now one plain wrote complete wanted = (
@@ -380,7 +380,7 @@ legal_all text b g none = subst (IsSettled b.config g.read.entries) none g.read.
 events_all : (w : Wanted) (text : List ℕ) (b : EntryAudit) (g : IsGoing text b) → b.wrong ≡ None → events_of w text b g ≡ events_front w b.version b.config (reverse g.read.entries)
 events_all w text b g none = ap (λ (o : Option WrongLine). events_front w b.version b.config (reverse (legal_part g.read.entries o))) none
 
--- If no entry is wrong, the wanted value is the value after all entries.
+-- If no entry is wrong, the faults in the wanted value are the faults after all entries.
 wanted_all : (w : Wanted) (text : List ℕ) (b : EntryAudit) (g : IsGoing text b) (now : Wanted) → b.wrong ≡ None → now ≡ wanted_after w (legal_past text b g) → now ≡ wanted_after w (reverse g.read.entries)
 wanted_all w text b g now none is = is ∙ ap (λ (o : Option WrongLine). wanted_after w (reverse (legal_part g.read.entries o))) none
 

@@ -1,4 +1,4 @@
--- The entries of a text that continues.
+-- The entries of a text after one more line was read.
 use Rattle.std.proofs.Common.{◌≡◌, ◌==◌, ℕ, Bool, true, false, cond, All, List, [], ◌∷◌, ◌++◌, get_or, length, refl, sym, ap, subst, ◌∙◌}
 use Rattle.std.proofs.lemmas.List.{append-nil, append_cancel_left}
 use Rattle.std.proofs.lemmas.List.Elements.{All-head, All-tail}
@@ -39,7 +39,7 @@ one_version v w a b e = sym (digit_again v a) ∙ ap (λ (x : List ℕ). version
 spelled_rest : (ws : List (List ℕ)) (a b : List ℕ) → spell ws a ≡ spell ws b → a ≡ b
 spelled_rest ws a b e = append_cancel_left (spell ws []) a b (spell-rest ws a ∙ e ∙ sym (spell-rest ws b))
 
--- Two texts with the same first lines have the same version and bus, and the same bytes follow.
+-- If two texts have the same first lines, their versions, their buses and the bytes that follow are equal.
 record Fronts (v w : Version) (c d : BusConfig) (a b : List ℕ) : Type 0 where
   version : v ≡ w
   config : c ≡ d
@@ -125,7 +125,7 @@ last_lacks : (b : Bool) (v : Version) (c : BusConfig) (es : List Entry) → Lack
 last_lacks false v c es = nothing_lacks v c
 last_lacks true v c es = end_lacks v c (length es) []
 
--- The text with one more line has the entries of the text that was read, and may have more after them.
+-- The longer text begins with the entries that were already read, and may contain more entries after them.
 pub record GoesOn (old new : EntryAudit) (es ds : List Entry) (line : List ℕ) : Type 0 where
   pub version : new.version ≡ old.version
   pub config : new.config ≡ old.config
@@ -167,7 +167,7 @@ none_after_end true v c es [] line rest is lines e = refl
 none_after_end true v c es (x ∷ more) line rest is lines e =
     absurd (end_lacks v c (length es) line x (entry_lines more rest) (All-head (HasLine v c) x more lines) (sym (spell-rest (end_words (length es)) line) ∙ e))
 
--- Before the end line, one line has one entry or is the end line.
+-- Before the end line, one line contains one entry or is the end line.
 pub data OneLine (more : List Entry) (line rest : List ℕ) : Type 0 where
   No_entry : more ≡ [] → line ≡ rest → OneLine more line rest
   An_entry : (e : Entry) → more ≡ e ∷ [] → line ≡ entry_line e [] → rest ≡ [] → OneLine more line rest

@@ -11,7 +11,7 @@ use Rattle.can_replay.specs.Words.{parted, put_word}
 use Rattle.can_replay.specs.inner.Seen.{counts_in, dropped_in, item_in, put_in}
 use Rattle.can_replay.proofs.Lists.{no_words, word_more}
 
--- The items of a socket. If there is no such socket or item, nothing is written.
+-- The items of a socket. If the socket or the item does not exist, nothing is written.
 
 pub no_dropped : (o : Option SocketState) (seen : Closed) → None ≡ option_map numbered_counts o → dropped_in o seen ≡ []
 no_dropped None seen h = refl
@@ -25,7 +25,7 @@ pub no_item : (s : ℕ) (o : Option Received) → None ≡ o → item_in s o ≡
 no_item s None h = refl
 no_item s (Some r) h = cc
 
--- The counts of a socket are the counts that are noted for it.
+-- The counts of a socket equal the counts that were stored for it.
 pub counts_seen : (o : Option SocketState) (p : SocketId × Closed) → Some p ≡ option_map numbered_counts o → Some p.1 ≡ option_map counts_in o
 counts_seen None p h = cc
 counts_seen (Some v) p h = cc
@@ -45,7 +45,7 @@ item_more s items k start text new first before next =
     let after : k + 1 ≡ suc k = omega arith in
     ap (λ (n : ℕ). new ++ parted (put_words s (drop n items))) after ∙ item_next s items k text new next ∙ before
 
--- All items of a socket from an index on were written.
+-- All items of a socket, starting at an index, were written.
 pub items_whole : (o : Option SocketState) (id : SocketId) (counts seen : Closed) (k : ℕ) (start now : List ℕ) → Some (id, counts) ≡ option_map numbered_counts o → counts.unread ≤ k → now ++ parted (put_words id.0 (drop k (waiting_in o))) ≡ start ++ parted (put_words id.0 (drop seen.unread (waiting_in o))) → now ≡ start ++ parted (put_in o seen)
 items_whole None id counts seen k start now is ended before = cc
 items_whole (Some v) id counts seen k start now is ended before =

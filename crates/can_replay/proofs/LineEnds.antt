@@ -1,4 +1,4 @@
--- Each line ends after its LF.
+-- Every line ends with its LF.
 use Rattle.std.proofs.Common.{◌≡◌, ◌≢◌, ◌==◌, ◌&&◌, not, cond, ℕ, ◌^◌, ◌<◌, Bool, true, false, List, [], ◌∷◌, ◌++◌, length, take, refl, subst, suc, ◌-◌, sym, ap, ◌∙◌, arith}
 use Rattle.std.specs.Prelude.{All, codes}
 use Rattle.std.proofs.lemmas.Bool.{ne_eqb}
@@ -50,7 +50,7 @@ words_through : (ws : List (List ℕ)) (rest : List ℕ) → AreWords ws → ws 
 words_through [] rest h some = absurd (some refl)
 words_through (w ∷ ws) rest h some = spell_through w ws rest h
 
--- If a text begins with two lines that both end in this way, the two lines are equal.
+-- If a text begins with two such lines, the two lines are equal.
 pub same_line : (line after whole l : List ℕ) → MayFollow line after → line ++ after ≡ whole → take_through 10 whole ≡ l → line ≡ l
 same_line line after whole l may is through = sym may ∙ ap (take_through 10) is ∙ through
 
@@ -101,7 +101,7 @@ cut_end n line rest small is begins = same_line line [] (spell (end_words n) res
 pub cut_first : (v : Version) (line rest : List ℕ) → IsLine line → line ≡ first_line v ++ rest → line ≡ first_line v
 cut_first v line rest is begins = same_line line [] (first_line v ++ rest) (first_line v) (nothing_more line is) (append-nil line ∙ begins) (first_through v rest)
 
--- ---- a line and the bytes after it: these bytes do not belong to the line
+-- ---- a line and the bytes after it, which do not belong to the line
 
 pub lacks_entry : (v : Version) (c : BusConfig) (line after : List ℕ) → MayFollow line after → LacksEntry v c line → LacksEntry v c (line ++ after)
 lacks_entry v c line after may lacks e more h is = lacks e [] h (same_line line after (entry_line e more) (entry_line e []) may is (entry_through v c e more h))

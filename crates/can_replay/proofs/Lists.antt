@@ -8,14 +8,14 @@ use Rattle.std.proofs.lemmas.Option.{slice_get_read, slice_get_within, slice_get
 use Rattle.can_attempt.proofs.Places.{range_more}
 use Rattle.can_replay.specs.Words.{part_named, parted}
 
--- The output of a loop over numbers, and lists that are computed from another list.
+-- The output of a loop over indices, and lists that are computed from another list.
 
--- ---- one more number
+-- ---- one more index
 
 pub range_next : (n : ℕ) → range_with_len 0 (n + 1) ≡ range_with_len 0 n ++ n ∷ []
 range_next n = let next : n + 1 ≡ suc n = omega arith in ap (range_with_len 0) next ∙ range_more 0 n n (omega arith)
 
--- The loop appends the part of the next number to its output.
+-- The loop appends the output for the next index.
 pub more : {A : Type 0} (f : ℕ → List A) (start now new : List A) (i : ℕ) → now ≡ start ++ flat_map f (range_with_len 0 i) → new ≡ now ++ f i → new ≡ start ++ flat_map f (range_with_len 0 (i + 1))
 more {A = A} f start now new i before next =
     next
@@ -23,7 +23,7 @@ more {A = A} f start now new i before next =
     ∙ flat_map_more f start (range_with_len 0 i) i
     ∙ ap (λ (ns : List ℕ). start ++ flat_map f ns) (sym (range_next i))
 
--- If nothing is written for a number, the end of the output stays the same.
+-- If nothing is written for an index, the end of the output does not move.
 pub end_next : {A : Type 0} (f : ℕ → List A) (end next i : ℕ) (is_later : Bool) → next ≡ (if is_later then i + 1 else end) → (is_later ≡ false → f i ≡ []) → flat_map f (range_with_len 0 end) ≡ flat_map f (range_with_len 0 i) → flat_map f (range_with_len 0 next) ≡ flat_map f (range_with_len 0 (i + 1))
 end_next f end next i true is none same = ap (λ (n : ℕ). flat_map f (range_with_len 0 n)) is
 end_next {A = A} f end next i false is none same =
@@ -45,7 +45,7 @@ parted_both : (ws vs : List (List ℕ)) → parted (ws ++ vs) ≡ parted ws ++ p
 unfolding parted
 parted_both ws vs = flat_map-append (λ (w : List ℕ). 32 ∷ w) ws vs
 
--- The loop appends the words of the next number to its output.
+-- The loop appends the words for the next index.
 pub more_words : (f : ℕ → List (List ℕ)) (start now new : List ℕ) (i : ℕ) → now ≡ start ++ parted (flat_map f (range_with_len 0 i)) → new ≡ now ++ parted (f i) → new ≡ start ++ parted (flat_map f (range_with_len 0 (i + 1)))
 more_words f start now new i before next =
     let words = flat_map f (range_with_len 0 i) in
@@ -56,7 +56,7 @@ more_words f start now new i before next =
     ∙ ap (λ (x : List ℕ). start ++ x) (sym (parted_both words (f i)))
     ∙ ap (λ (ws : List (List ℕ)). start ++ parted ws) all
 
--- If there are no words, nothing has to be written.
+-- If the list of words is empty, nothing is written.
 pub no_words : (text : List ℕ) (ws : List (List ℕ)) → ws ≡ [] → text ≡ text ++ parted ws
 unfolding parted
 no_words text ws none = sym (append-nil text) ∙ ap (λ (vs : List (List ℕ)). text ++ parted vs) (sym none)
@@ -69,7 +69,7 @@ pub word_more : (text new : List ℕ) (w : List ℕ) (ws : List (List ℕ)) → 
 unfolding parted
 word_more text new w ws next = ap (λ (x : List ℕ). x ++ parted ws) next ∙ append_assoc text (parted (w ∷ [])) (parted ws) ∙ ap (λ (x : List ℕ). text ++ x) (sym (parted_both (w ∷ []) ws))
 
--- The name is written, then the words. If there are no words, the name is removed again.
+-- The name is written, and then the words. If the list of words is empty, the name is removed again.
 pub part_whole : (name text front all new : List ℕ) (ws : List (List ℕ)) → front ≡ text ++ 59 ∷ 32 ∷ name → all ≡ front ++ parted ws → new ≡ (if length all == length front then take (length text) all else all) → new ≡ text ++ part_named name ws
 unfolding parted
 part_whole name text front all new [] named_is all_is new_is =
@@ -97,24 +97,24 @@ part_whole name text front all new (v ∷ ws) named_is all_is new_is =
 pub read_at : {X : Type 0} (xs : List X) (i : ℕ) (x d : X) → i < length xs → x ≡ get_or xs i x → get_or xs i d ≡ x
 read_at xs i x d lt is = get_or_from_slice_get xs i x d (slice_get_read xs (length xs) i x refl lt is)
 
--- Output in two steps.
+-- The output after two steps.
 pub two : (t t1 t2 a b : List ℕ) → t1 ≡ t ++ a → t2 ≡ t1 ++ b → t2 ≡ t ++ (a ++ b)
 two t t1 t2 a b e1 e2 = e2 ∙ ap (λ (x : List ℕ). x ++ b) e1 ∙ append_assoc t a b
 
--- Output in three steps.
+-- The output after three steps.
 pub three : (t t1 t2 t3 a b c : List ℕ) → t1 ≡ t ++ a → t2 ≡ t1 ++ b → t3 ≡ t2 ++ c → t3 ≡ t ++ (a ++ b ++ c)
 three t t1 t2 t3 a b c e1 e2 e3 = e3 ∙ ap (λ (x : List ℕ). x ++ c) (two t t1 t2 a b e1 e2) ∙ append_assoc t (a ++ b) c
 
--- Output in four steps.
+-- The output after four steps.
 pub four : (t t1 t2 t3 t4 a b c d : List ℕ) → t1 ≡ t ++ a → t2 ≡ t1 ++ b → t3 ≡ t2 ++ c → t4 ≡ t3 ++ d → t4 ≡ t ++ (a ++ b ++ c ++ d)
 four t t1 t2 t3 t4 a b c d e1 e2 e3 e4 = e4 ∙ ap (λ (x : List ℕ). x ++ d) (three t t1 t2 t3 a b c e1 e2 e3) ∙ append_assoc t (a ++ b ++ c) d
 
--- Output in five steps; the second step writes two parts.
+-- The output after five steps. The second step writes two parts.
 pub five : (t t1 t2 t3 t4 t5 r u p w n e : List ℕ) → t1 ≡ t ++ r → t2 ≡ t1 ++ (u ++ p) → t3 ≡ t2 ++ w → t4 ≡ t3 ++ n → t5 ≡ t4 ++ e → t5 ≡ t ++ (r ++ u ++ p ++ w ++ n ++ e)
 five t t1 t2 t3 t4 t5 r u p w n e e1 e2 e3 e4 e5 =
     four t t2 t3 t4 t5 (r ++ u ++ p) w n e (two t t1 t2 r (u ++ p) e1 e2 ∙ ap (λ (x : List ℕ). t ++ x) (sym (append_assoc r u p))) e3 e4 e5
 
--- The loop takes one more element of a list.
+-- The loop processes one more element of a list.
 pub taken_next : {X Y : Type 0} (f : X → Y) (xs : List X) (now new : List Y) (i : ℕ) (y : Y) → now ≡ take i (map f xs) → Some y ≡ option_map f (slice_get xs i) → new ≡ now ++ y ∷ [] → new ≡ take (i + 1) (map f xs)
 taken_next {Y = Y} f xs now new i y before at next =
     let there : slice_get (map f xs) i ≡ Some y = slice_get-map f xs i ∙ sym at in
@@ -134,14 +134,14 @@ taken_set {Y = Y} f xs now new i y long before at next =
     ∙ take_more_set now i y few
     ∙ taken_next f xs (take i now) (take i now ++ y ∷ []) i y before at refl
 
--- After the last element the list is complete.
+-- After the last element, the list is complete.
 pub taken_all : {X Y : Type 0} (f : X → Y) (xs : List X) (now : List Y) (i : ℕ) → length now ≡ length xs → length xs ≤ i → take i now ≡ take i (map f xs) → now ≡ map f xs
 taken_all f xs now i long ended same =
     sym (take_all i now (omega (arith, long, ended)))
     ∙ same
     ∙ take_all i (map f xs) (omega (arith, length-map xs f, ended))
 
--- ---- functions that agree
+-- ---- functions with equal results
 
 pub same_each : {X A : Type 0} (f g : X → List A) (xs : List X) → ((x : X) → f x ≡ g x) → flat_map f xs ≡ flat_map g xs
 same_each {A = A} f g [] same = refl
@@ -157,7 +157,7 @@ pub same_map : {X Y Z : Type 0} (f : Y → Z) (g : X → Y) (h : X → Z) (xs : 
 same_map f g h [] same = refl
 same_map {Z = Z} f g h (x ∷ xs) same = ap (λ (z : Z). z ∷ map f (map g xs)) (same x) ∙ ap (λ (zs : List Z). h x ∷ zs) (same_map f g h xs same)
 
--- ---- two lists that are computed from one list, element by element
+-- ---- two lists that are computed element by element from one list
 
 later : {A : Type 0} (f : ℕ → List A) (a n : ℕ) → flat_map f (range_with_len (a + 1) n) ≡ flat_map (λ p. f (suc p)) (range_with_len a n)
 later f a zero = refl

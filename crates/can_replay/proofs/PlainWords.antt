@@ -1,4 +1,4 @@
--- The words of a line: no byte of a word is an LF.
+-- The words of a line. No byte of a word is an LF.
 use Rattle.std.proofs.Common.{◌≡◌, ◌^◌, ◌<◌, ◌==◌, cond, Bool, true, false, List, [], ◌∷◌, ◌++◌, length, Some, None, refl, arith}
 use Rattle.std.specs.Prelude.{ℕ, codes, decimal}
 use Rattle.can_frame.specs.declared.item.Item.{Item}

@@ -1,4 +1,4 @@
--- One more line is taken.
+-- The audit takes one more line.
 use Rattle.std.proofs.Common.{◌≡◌, ◌≢◌, ◌≤◌, ◌+◌, ◌⊎◌, nat_le, cond, ℕ, Bool, true, false, List, [], ◌∷◌, ◌++◌, length, take, Option, Some, None, Result, Ok, Err, length-append, refl, sym, ap, subst, ◌∙◌, arith}
 use Rattle.std.specs.Prelude.{get_or, reverse, slice_get}
 use Rattle.std.proofs.Math.Seq.{get_or-append_seam, take-append_seam}
@@ -34,7 +34,7 @@ use Rattle.can_record_text.specs.declared.fault.Unread.{Unread}
 use Rattle.can_record_text.specs.declared.fault.Unread.TheVariants as unread
 use Rattle.can_replay.proofs.LineEnds.{cut_entry}
 
--- ---- the first wrong entry, and entries after it
+-- ---- the first wrong entry and the entries after it
 
 there_more : (es more : List Entry) (d : Entry) (k : ℕ) → slice_get es k ≡ Some d → slice_get (es ++ more) k ≡ Some d
 there_more es more d k there =
@@ -88,7 +88,7 @@ text_more : (b : Bool) (v : Version) (c : BusConfig) (es : List Entry) (e : Entr
 text_more true v c es e is = absurd cc
 text_more false v c es e is = front-then v c (entry_lines es []) (entry_line e []) ∙ ap (front_lines v c) (lines-more es e)
 
--- The line of one more entry was read; then `w` is the wrong entry that is known, if any.
+-- The line of one more entry was read. `w` is the first wrong entry, if one is known.
 pub read_more : (text line : List ℕ) (b : EntryAudit) (bus : Lean) (needs : Needs) (w : Option WrongLine) (e : Entry) (read : IsRead text b) → b.is_ended ≡ false → HasLine b.version b.config e → line ≡ entry_line e [] → needs ≡ needs_of e
     → IsSettled b.config (read.entries ++ e ∷ []) w → IsRead (text ++ line) (record b { bus = bus; count = b.count + 1; needs = both_needs b.needs needs; wrong = w })
 read_more text line b bus needs w e read going good is here settled =
@@ -152,12 +152,12 @@ wrong_here text line rest b needs e d legal limit read none going config is othe
       is_after = λ still none_too. absurd (none-some w (sym none_too));
     }
 
--- ---- places without a line
+-- ---- lines that are not allowed at this point of the text
 
 pub spells_none : (v : Version) (c : BusConfig) (line : List ℕ) → entry_at line ≡ None → LacksEntry v c line
 spells_none v c line none e more good is = none-some e (sym none ∙ ap entry_at is ∙ entry_again v c e more good)
 
--- A line occurs only in a version with the features that the line needs.
+-- A line is allowed only in a version that has the features used in the line.
 pub not_taken : (v : Version) (c : BusConfig) (past : List Entry) (line : List ℕ) (needs : Needs) (bus : Lean) → IsNext c past line needs bus → takes v needs ≡ false → LacksEntry v c line
 not_taken v c past line needs bus one other e more good is =
     let same : e ≡ one.entry = same_Some e one.entry (sym (entry_again v c e more good) ∙ ap entry_at (sym is ∙ one.is_line) ∙ entry_again version.Six c one.entry one.rest one.good) in
@@ -167,9 +167,9 @@ not_taken v c past line needs bus one other e more good is =
     never true e h = absurd cc
     never false e h = absurd cc
 
--- ---- an entry audit after one more line
+-- ---- the audit after one more line
 
--- The facts about the lines that were read do not depend on the bus.
+-- The properties of the lines that were read do not depend on the bus.
 pub reread : (text : List ℕ) (b : EntryAudit) (bus : Lean) (read : IsRead text b) → IsRead text (record b { bus = bus })
 reread text b bus read = record { entries = read.entries; good = read.good; begins = read.begins; counted = read.counted; needs = read.needs; settled = read.settled }
 

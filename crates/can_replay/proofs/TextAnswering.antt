@@ -1,4 +1,4 @@
--- The comparison of a line with the reply of a bus.
+-- Compares a line with the line for the reply of a bus.
 use Rattle.std.proofs.Common.{◌≡◌, ◌≤◌, nat_le, ℕ, List, [], drop, length, Option, Some, None, Err, inl, inr, refl, sym, subst, ap, ◌∙◌}
 use Rattle.std.proofs.lemmas.Bool.{cond-false, le-leb, lt-leb}
 use Rattle.std.proofs.lemmas.Option.{none-some, same_Some}
@@ -26,13 +26,13 @@ use Rattle.can_record_text.specs.Values.{HasLine, HoldsEvent, HoldsReply}
 use Rattle.can_record_text.proofs.Again.{entry_again}
 use Rattle.can_replay.specs.inner.Carried.{IsNext, IsOther, IsWrongNext}
 
--- Bytes that do not begin with an event do not begin with an entry.
+-- Bytes that do not begin with the words of an event do not begin with an entry.
 pub not_an_entry : (u : Unread) (text : List ℕ) → Gives {X = Event × List ℕ} (Err u) (event_at text) → u ≡ unread.Bad → entry_at text ≡ None
 unfolding entry_at
 not_an_entry unread.Bad text h is = rw h refl
 not_an_entry unread.NoMemory text h is = absurd cc
 
--- If a text begins with an entry and with an event, it is the event of the entry.
+-- If a text begins with an entry and also with an event, the event belongs to this entry.
 event_is : (text : List ℕ) (e : Entry) (ev : Event) (rest : List ℕ) → entry_at text ≡ Some e → event_at text ≡ Some (ev, rest) → e.event ≡ ev
 unfolding entry_at
 event_is text e ev rest whole is = when (reply_at (moment_of ev) (after rest)) (sym (ap (λ (o : Option (Event × List ℕ)). o >>= λ x. reply_at (moment_of x.0) (after x.1) >>= λ r. Some (record { event = x.0; reply = r.0 })) is) ∙ whole)
@@ -54,13 +54,13 @@ other_reply v c past line rest more e ev r good is guessed enters answer other =
       is_allowed = ap Some law ∙ sym (cond-false (nat_le c.limit (length past)) None (Some (legal_reply c past e.event)) (lt-leb c.limit (length past) lawful.0));
     }
 
--- Past the limit every entry is wrong.
+-- Every entry past the limit is wrong.
 pub other_past : (c : BusConfig) (past : List Entry) (line : List ℕ) (ev : Event) (r : Reply) → r ≡ reply.Refused refusal.RecordFull → IsAnswer c past ev r → IsOther c past line None
 other_past c past line ev r is answer v e rest good is_line =
     let full : c.limit ≤ length past = subst (IsAnswer c past ev) is answer in
     record { wrong = inl full; is_allowed = rw (le-leb c.limit (length past) full) refl }
 
--- The line of an event with the reply of a bus is the line of the next entry.
+-- The line for an event and the bus's reply is the line of the next entry.
 pub next_is : (c : BusConfig) (past : List Entry) (line : List ℕ) (ev : Event) (r : Reply) (needs : Needs) (bus : Lean) → Enters r → IsSpelled c (record { event = ev; reply = r }) → HoldsEvent ev → HoldsReply r
     → needs ≡ needs_of (record { event = ev; reply = r }) → line ≡ answered_line ev r (drop (length (answered_line ev r [])) line) → IsAfter bus (history_after ev r past) → IsNext c past line needs bus
 next_is c past line ev r needs bus enters spelled event reply needed is_line after = record {

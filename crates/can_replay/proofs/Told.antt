@@ -28,9 +28,9 @@ use Rattle.can_replay.specs.Words.{counts_part, lost_part, part_named, dropped_w
 use Rattle.can_replay.specs.inner.Seen.{Seen, counts_at, counts_in, dropped_in, lost_in, nothing_seen, put_in, seen_after, seen_in, told_counts, told_counts_at, told_dropped, told_dropped_at, told_lost, told_lost_at, told_parts, told_put, told_put_at}
 use Rattle.can_replay.proofs.Lists.{by_place, same_below, same_each, same_map}
 
--- The effects that are computed from the state of a bus are the effects of its entries.
+-- The effects that are computed from the state of a bus equal the effects of its entries.
 
--- ---- the noted state
+-- ---- the state that is stored before an entry
 
 seen_lost : (c : BusConfig) (past : List Entry) → map lost_of (kept_interfaces c past) ≡ map (lost_count past) (range_with_len 0 c.ifaces)
 unfolding kept_interfaces
@@ -53,7 +53,7 @@ seen_is c past =
     ∙ ap (λ (l : List ℕ). made (all_counts c past) l (map counts_in (kept_sockets c past))) (seen_lost c past)
     ∙ ap (λ (k : List Closed). made (all_counts c past) (map (lost_count past) (range_with_len 0 c.ifaces)) k) (seen_sockets c past)
 
--- ---- an attempt, a restart or a down opens and closes no socket, and takes no item from a socket
+-- ---- an attempt, a restart or a down does not open or close a socket, and takes no item from one
 
 open_stays : (n : ℕ) (e : Event) (r : Reply) (before : List ℕ) → IsTrue (is_step e) → open_after n e r before ≡ before
 open_stays n (Attempt m v) r before step = refl
@@ -111,7 +111,7 @@ lost_told c past e =
         ap (λ (o : Option InterfaceState). lost_part i (lost_in o - get_or (map (lost_count past) (range_with_len 0 c.ifaces)) i 0)) there
         ∙ ap (λ (n : ℕ). lost_part i (lost_count (e ∷ past) i - n)) old
 
--- The items that are waiting now and were not before are the items that the entry queued.
+-- The items that were added to the waiting items are the items that the entry queued.
 new_items : (c : BusConfig) (past : List Entry) (e : Entry) → IsLegal c past → IsTrue (is_step e.event) → (s : ℕ) → drop (length (queued_to c past s) - length (taken_from past s)) (drop (length (taken_from (e ∷ past) s)) (queued_to c (e ∷ past) s)) ≡ put_to c past e s
 new_items c past e legal step s =
     let q = length (queued_to c past s) in
@@ -138,7 +138,7 @@ dropped_told c past e step =
     ap (λ (ss : List ℕ). flat_map (told_dropped_at before (map (kept_socket c (e ∷ past)) ss)) (range_with_len 0 (length before))) same
     ∙ by_place dropped_in nothing_seen (counts_at_close c past) (kept_socket c (e ∷ past)) (open_sockets past)
 
--- The effects of an entry are the effects computed from the noted state before it and the state after it.
+-- The effects of an entry equal the effects that are computed from the states before and after it.
 pub parts_told : (c : BusConfig) (past : List Entry) (e : Entry) → IsLegal c past → IsTrue (is_step e.event) → told_parts (seen_after c past) (kept_parts c (e ∷ past)) ≡ parts_of c past e
 unfolding told_parts seen_after parts_of
 parts_told c past e legal step = whole (is_step e.event) step

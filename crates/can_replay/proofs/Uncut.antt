@@ -17,7 +17,7 @@ use Rattle.can_replay.proofs.LineEnds.{line_ends, torn_end, torn_entry}
 
 -- ---- the first wrong line of a text
 
--- If the text is cut off, the first wrong line is the line after its last entry.
+-- If the text is cut off, its first wrong line is the line after the last entry.
 lacking : (text : List ℕ) (v : Version) (c : BusConfig) (es : List Entry) (torn : List ℕ) → HasLines v c es → EndsNoLine torn → text ≡ front_lines v c (entry_lines es torn) → IsFirstWrong text (length es + 3)
 lacking text v c es torn good unended is = inr (inl (record {
   version = v;
@@ -34,13 +34,13 @@ lacking text v c es torn good unended is = inr (inl (record {
 cut_lacks : (text : List ℕ) (n : ℕ) (cut : IsCutText text n) → IsFirstWrong text (length cut.entries + 3)
 cut_lacks text n cut = lacking text cut.front.version cut.config cut.entries cut.front.torn cut.front.good cut.front.unended cut.front.begins
 
--- If bytes follow the end line, the first wrong line is the line after it.
+-- If bytes follow the end line, the first wrong line is the line after the end line.
 going : (text : List ℕ) (v : Version) (c : BusConfig) (es : List Entry) (more : List ℕ) → HasLines v c es → more ≢ [] → text ≡ text_in v c es ++ more → IsFirstWrong text (length es + 4)
 going text v c es more good some is = inr (inr (record { version = v; config = c; entries = es; rest = more; whole = good; begins = is; behind = refl; more = some }))
 
--- ---- a text that begins with whole lines
+-- ---- a text that begins with complete lines
 
--- Bytes with no LF come after the whole lines.
+-- Bytes with no LF can only come after the complete lines.
 torn_later : (a b f torn : List ℕ) → a ++ 10 ∷ b ≡ f ++ torn → EndsNoLine torn → (m : List ℕ) × (f ≡ a ++ 10 ∷ m)
 torn_later a b [] torn is h = absurd (line_ends a b (subst EndsNoLine (sym is) h))
 torn_later [] b (x ∷ f) torn is h =
@@ -51,7 +51,7 @@ torn_later (y ∷ a) b (x ∷ f) torn is h =
     let later = torn_later a b f torn (ap (drop 1) is) h in
     (later.0, ap (λ (l : List ℕ). x ∷ l) later.1 ∙ ap (λ (z : ℕ). z ∷ (a ++ 10 ∷ later.0)) (sym first))
 
--- Other bytes may follow the whole lines instead.
+-- The complete lines may also be followed by other bytes.
 lines_before : (p after : List ℕ) (v : Version) (c : BusConfig) (es : List Entry) (torn : List ℕ) → EndsLine p → p ++ after ≡ front_lines v c (entry_lines es torn) → EndsNoLine torn
     → (m : List ℕ) × ((more : List ℕ) → p ++ (m ++ more) ≡ front_lines v c (entry_lines es more))
 lines_before p after v c es torn end is unended =
@@ -67,7 +67,8 @@ some_after (x ∷ xs) ys some is = absurd cc
 
 -- ---- a faulty text
 
--- If the first wrong line after p is the same, whatever bytes follow p, no text that begins with p is cut off.
+-- If the first wrong line after `p` does not depend on the bytes that follow `p`, no text that begins with `p` is cut
+-- off.
 wrong_uncut : (p after : List ℕ) (n : ℕ) → EndsLine p → ((more : List ℕ) → more ≢ [] → IsFirstWrong (p ++ more) n) → (c : BusConfig) (es : List Entry) → IsFrontOf (p ++ after) c es → ⊥
 wrong_uncut p after n end wrong c es front =
     let v = front.version in
@@ -85,14 +86,14 @@ wrong_uncut p after n end wrong c es front =
 first_uncut : (p after : List ℕ) (n : ℕ) → EndsLine p → ((more : List ℕ) → more ≢ [] → IsFirstWrong (p ++ more) n) → IsUncut (p ++ after)
 first_uncut p after n end wrong m cut = wrong_uncut p after n end wrong cut.config cut.entries cut.front
 
--- Whole lines that are faulty, whatever bytes follow them, are not the beginning of a record's text.
+-- If complete lines are faulty whatever bytes follow them, no record's text begins with these lines.
 pub no_front : (p after : List ℕ) (why : ReadFault) → why ≢ fault.NoMemory → EndsLine p → ((more : List ℕ) → Reads (p ++ more) (Err why)) → (c : BusConfig) (es : List Entry) → IsFrontOf (p ++ after) c es → ⊥
 no_front p after fault.NoMemory some end wrong c es front = some refl
 no_front p after fault.BadVersion some end wrong c es front =
     not_both (p ++ after) (length es + 3) (wrong after) (lacking (p ++ after) front.version c es front.torn front.good front.unended front.begins)
 no_front p after (fault.BadLine n) some end wrong c es front = wrong_uncut p after n end (λ more some. wrong more) c es front
 
--- The text has no known version.
+-- The text does not name a known version.
 pub version_uncut : (text : List ℕ) → IsOfNoVersion text → IsUncut text
 version_uncut text none m cut = not_both text (length cut.entries + 3) none (cut_lacks text m cut)
 
@@ -102,13 +103,13 @@ second_uncut text wrong m cut =
     let same : 2 ≡ length cut.entries + 3 = one_first text 2 (length cut.entries + 3) wrong (cut_lacks text m cut) in
     absurd (omega (arith, same))
 
--- A whole line of the text is faulty.
+-- A complete line of the text is faulty.
 pub line_uncut : (p after : List ℕ) (why : ReadFault) → EndsLine p → ((more : List ℕ) → Reads (p ++ more) (Err why)) → FaultsUncut (p ++ after) why
 line_uncut p after fault.NoMemory end wrong = tt
 line_uncut p after fault.BadVersion end wrong = (wrong after, version_uncut (p ++ after) (wrong after))
 line_uncut p after (fault.BadLine n) end wrong = (wrong after, first_uncut p after n end (λ more some. wrong more))
 
--- ---- a text that has its end line
+-- ---- a text that contains its end line
 
 pub words_end : (w : List ℕ) (ws : List (List ℕ)) → (q : List ℕ) × ((rest : List ℕ) → spell (w ∷ ws) rest ≡ q ++ 10 ∷ rest)
 words_end w [] = (w, λ rest. refl)

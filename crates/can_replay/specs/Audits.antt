@@ -10,7 +10,8 @@ use Rattle.can_replay.specs.declared.audits.AuditFault.{AuditFault}
 use Rattle.can_replay.specs.declared.audits.AuditFault.TheVariants as fault
 use Rattle.can_replay.specs.Histories.{before}
 
--- Whether these entries, the oldest first, are a legal history, and which entry is the first wrong one if they are not.
+-- Defines whether a list of entries, the oldest first, is a legal history, and which entry is the first wrong one if it
+-- is not.
 
 -- Entry k is the first wrong entry. The entries before it are a legal history. Entry k is past the limit, or its reply
 -- does not follow from that history (own choice).
@@ -20,11 +21,11 @@ pub record IsFirstWrongEntry (c : BusConfig) (entries : List Entry) (k : ℕ) : 
   pub legal_before : IsLegal c (before entries k)
   pub wrong : (c.limit ≤ k) ⊎ (entry.reply ≢ legal_reply c (before entries k) entry.event)
 
--- The legal reply to this event after this history of k entries, or None if the limit allows no further entry.
+-- The legal reply to this event after this history of k entries, or None if the limit of entries is reached.
 abbrev pub allowed_after : BusConfig → ℕ → List Entry → Event → Option Reply
 allowed_after c k past e = if nat_le c.limit k then None else Some (legal_reply c past e)
 
--- The legal reply at entry k, whose event is e, or None if the limit allows no such entry.
+-- The legal reply for entry k, whose event is e, or None if entry k exceeds the limit.
 abbrev pub allowed : BusConfig → List Entry → ℕ → Event → Option Reply
 allowed c entries k e = allowed_after c k (before entries k) e
 
@@ -33,12 +34,12 @@ pub record IsToldWrong (c : BusConfig) (entries : List Entry) (k : ℕ) (legal :
   pub first : IsFirstWrongEntry c entries k
   pub is_allowed : legal ≡ allowed c entries k first.entry.event
 
--- The facts about the entries that follow from a fault of the audit. Lack of memory implies nothing.
+-- What a fault of the audit says about the entries. Lack of memory says nothing about them.
 abbrev pub Blames : BusConfig → List Entry → AuditFault → Type 0
 Blames c entries (fault.Wrong k legal) = IsToldWrong c entries k legal
 Blames c entries fault.NoMemory = Unit {0}
 
--- The fault of entry k if the bus gives this other reply to its event.
+-- The fault of entry k if the bus answers its event with this different reply.
 abbrev pub fault_at : ℕ → Reply → AuditFault
 fault_at k (Refused NoMemory) = fault.NoMemory
 fault_at k (Refused RecordFull) = fault.Wrong k None

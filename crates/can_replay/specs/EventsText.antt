@@ -24,8 +24,9 @@ use Rattle.can_replay.specs.Words.{counts_part, lost_part, part_named, numbered,
 use Rattle.can_replay.specs.Words.{wire_words}
 
 -- The text of a record's events: each entry's line with the entry's effects. If the timing of the bus is given, the
--- line of a tried frame has its times and bits. If the run's fault rules are given, each rule has a line at the point
--- at which the bus takes it, and the line of an attempt has the rule that gave its verdict (own choice).
+-- line of a tried frame also contains its times and bits. If the run's fault rules are given, each rule has a line at
+-- the point at which the bus accepts it, and the line of an attempt contains the number of the rule that gave its
+-- verdict (own choice).
 
 -- The error counts that the entry changed, by interface.
 abbrev pub counts_parts : BusConfig → List Entry → Entry → List ℕ
@@ -36,21 +37,21 @@ counts_parts c past e =
 abbrev pub lost_parts : BusConfig → List Entry → Entry → List ℕ
 lost_parts c past e = flat_map (λ i. lost_part i (lost_by past e i)) (range_with_len 0 c.ifaces)
 
--- A word for each item that was queued to socket s.
+-- The words for the items that were queued on socket s, one word for each item.
 abbrev pub put_words : ℕ → List Received → List (List ℕ)
 put_words s items = map (λ (r : Received). put_word s r.item) items
 
--- The items that were queued, by socket.
+-- The part that lists the queued items, by socket.
 abbrev pub put_part : BusConfig → List Entry → Entry → List ℕ
 put_part c past e =
     part_named (codes "put") (flat_map (λ s. put_words s (put_to c past e s)) (open_sockets past))
 
--- The number of items that found no room at a socket, by socket.
+-- The part that lists how many items were dropped because a socket had no room, by socket.
 abbrev pub dropped_part : BusConfig → List Entry → Entry → List ℕ
 dropped_part c past e =
     part_named (codes "dropped") (flat_map (λ s. dropped_words s (dropped_by c past e s)) (open_sockets past))
 
--- The effects of an entry. Only an attempt, a restart or a down has any.
+-- The effects of an entry. Only an attempt, a restart or a down has effects.
 unfoldable pub parts_of : BusConfig → List Entry → Entry → List ℕ
 parts_of c past e =
     if is_step e.event
@@ -82,8 +83,8 @@ rule_in (Some run) e = rule_by run e.event e.reply
 abbrev pub rule_part : Option RunSeen → Entry → List ℕ
 rule_part faults e = numbered (codes "rule") (rule_in faults e)
 
--- The lines before the line of an entry. If the entry is an attempt that tried a frame, they are the rules that the bus
--- takes before it, and a line for each removal of all rules.
+-- The lines before the line of an entry. If the entry is an attempt that tried a frame, they contain the rules that the
+-- bus accepts before it, and a line for each removal of all rules.
 abbrev pub rules_by : RunSeen → Event → Reply → List ℕ
 rules_by run (Attempt m v) (reply.Attempted (attempt.Tried a)) = next_rules run
 rules_by run _ _ = []
@@ -93,30 +94,30 @@ unfoldable pub rules_before : Option RunSeen → Entry → List ℕ
 rules_before None e = []
 rules_before (Some run) e = rules_by run e.event e.reply
 
--- The faults after an entry. Only an attempt that tried a frame asks the rules.
+-- The fault rules after an entry. Only an attempt that tried a frame queries the rules.
 abbrev pub asked_by : RunSeen → Event → Reply → RunSeen
 asked_by run (Attempt m v) (reply.Attempted (attempt.Tried a)) = asked_run run (won_by a.winner (word_of a.frame))
 asked_by run _ _ = run
 
--- The faults after an entry, if the faults before it are given.
+-- The fault rules after an entry, if the rules before it are given.
 unfoldable pub asked_of : Option RunSeen → Entry → Option RunSeen
 asked_of None e = None
 asked_of (Some run) e = Some (asked_by run e.event e.reply)
 
--- The faults after these entries, if the faults before them are given.
+-- The fault rules after these entries, if the rules before them are given.
 abbrev pub faults_after : Option RunSeen → List Entry → Option RunSeen
 faults_after faults [] = faults
 faults_after faults (e ∷ past) = asked_of (faults_after faults past) e
 
--- The wanted value for the entry after these entries: the timing, and the faults at that point.
+-- The wanted value for the entry after these entries: the timing, and the fault rules at that point.
 abbrev pub wanted_after : Wanted → List Entry → Wanted
 wanted_after w past = record w { faults = faults_after w.faults past }
 
--- Only the effects of entries are wanted.
+-- The wanted value without additional parts: only the effects of entries are written.
 abbrev pub nothing_wanted : Wanted
 nothing_wanted = record { timing = None; faults = None }
 
--- A line without the LF at its end.
+-- A line without its final LF.
 abbrev pub unended : List ℕ → List ℕ
 unended line = take (length line - 1) line
 
@@ -145,8 +146,8 @@ unfoldable pub rules_at_start : Option RunSeen → List ℕ
 rules_at_start None = []
 rules_at_start (Some run) = first_rules run
 
--- The lines after all attempts, if the faults are given: the rules that the bus takes, and a line for each removal of
--- all rules.
+-- The lines after all attempts, if the faults are given: the rules that the bus still accepts, and a line for each
+-- removal of all rules.
 unfoldable pub rules_at_end : Option RunSeen → List ℕ
 rules_at_end None = []
 rules_at_end (Some run) = last_rules run

@@ -9,7 +9,7 @@ use Rattle.can_bus.specs.Legal.{legal_reply}
 
 -- The replies to a list of events, in order.
 
--- No event was refused for lack of memory (own choice).
+-- No event was refused because memory was lacking (own choice).
 abbrev pub HadMemory : List Reply → Type 0
 HadMemory replies = All (λ r. r ≢ reply.Refused refusal.NoMemory) replies
 
@@ -22,7 +22,7 @@ abbrev pub entries_after : BusConfig → List Entry → Event → List Entry
 entries_after c past e =
     if nat_le c.limit (length past) then past else record { event = e; reply = legal_reply c past e } ∷ past
 
--- The replies to these events, in order, after these entries. The reply to each event depends on the entries before it.
+-- The replies to these events, in order, after these entries. The reply to each event depends on all entries before it.
 unfoldable pub replies_after : BusConfig → List Entry → List Event → List Reply
 replies_after c past [] = []
 replies_after c past (e ∷ es) = reply_after c past e ∷ replies_after c (entries_after c past e) es

@@ -8,13 +8,13 @@ use Rattle.can_rules.specs.Plans.{PlanSeen}
 use Rattle.can_rules.specs.RuleText.{rule_words}
 use Rattle.can_rules.specs.RunFaults.{RunSeen, after_change, made_of}
 
--- The rules that a bus takes, as lines among the events. The lines show the number of each rule (own choice).
+-- The rules that a bus accepts, as lines among the events. The lines show the number of each rule (own choice).
 
--- The line of a rule that the bus takes: its number and its words.
+-- The line of a rule that the bus accepts: its number and its words.
 unfoldable pub rule_line : List (List ℕ) → Rule → List ℕ
 rule_line names rule = codes "rule " ++ decimal rule.number ++ 32 ∷ rule_words names rule ++ 10 ∷ []
 
--- The line for the result of a change of the rules. If a rule is refused, there is no line.
+-- The line for the result of a change of the rules. A refused rule has no line.
 abbrev pub made_line : List (List ℕ) → Made → List ℕ
 made_line names (made.Taken rule) = rule_line names rule
 made_line names made.Refused = []
@@ -29,7 +29,7 @@ changes_lines names plan attempt (next ∷ later) =
     ++ changes_lines names (after_change next.change plan) attempt later
     else []
 
--- The lines of the script's rules, which the bus takes at the start.
+-- The lines of the script's rules, which the bus accepts at the start.
 abbrev pub first_rules : RunSeen → List ℕ
 first_rules run = flat_map (rule_line run.names) run.plan.rules
 

@@ -31,24 +31,24 @@ pub record IsLegalText (text : List ℕ) (count : ℕ) : Type 0 where
   pub legal : IsLegal config (reverse entries)
   pub counted : count ≡ length entries
 
--- The text is the text of a record, and this is the record's first wrong entry.
+-- The text is the text of a record whose first wrong entry is `w`.
 pub record IsWrongText (text : List ℕ) (w : WrongLine) : Type 0 where
   pub config : BusConfig
   pub entries : List Entry
   pub whole : IsTextOf text config entries
   pub wrong : IsWrongIn config entries w
 
--- The facts about a text that follow from the audit's result after the end of the text.
+-- What the audit's result at the end of the text says about the text.
 abbrev pub Reports : List ℕ → Result ℕ TextFault → Type 0
 Reports text (Ok count) = IsLegalText text count
 Reports text (Err (fault.Read why)) = Reads text (Err why)
 Reports text (Err (fault.Wrong w)) = IsWrongText text w
 
--- No line ends in these bytes: they have no LF.
+-- These bytes contain no LF, so no line ends in them.
 abbrev pub EndsNoLine : List ℕ → Type 0
 EndsNoLine bytes = All (λ b. b ≢ 10) bytes
 
--- The text is a front of a record's text: the first two lines, the lines of these entries, and bytes with no LF.
+-- The text is the beginning of a record's text: the first two lines, the lines of these entries, and bytes with no LF.
 pub record IsFrontOf (text : List ℕ) (config : BusConfig) (entries : List Entry) : Type 0 where
   pub version : Version
   pub torn : List ℕ
@@ -64,8 +64,8 @@ HasBus text c = (v : Version) × (rest : List ℕ) × HasBusLine v c × (text �
 abbrev pub LacksFront : List ℕ → Type 0
 LacksFront text = (v : Version) (c : BusConfig) (rest : List ℕ) → HasBusLine v c → text ≢ front_lines v c rest
 
--- The text is cut off: it is the front of a legal record's text and ends after the lines of this many entries, or in
--- the next line.
+-- The text is cut off: it is the beginning of a legal record's text and ends after the lines of this many entries, or
+-- within the next line.
 pub record IsCutText (text : List ℕ) (count : ℕ) : Type 0 where
   pub config : BusConfig
   pub entries : List Entry
@@ -73,24 +73,24 @@ pub record IsCutText (text : List ℕ) (count : ℕ) : Type 0 where
   pub legal : IsLegal config (reverse entries)
   pub counted : count ≡ length entries
 
--- The text is cut off, and this is the first wrong entry in it.
+-- The text is cut off, and `w` is the first wrong entry in it.
 pub record IsWrongCut (text : List ℕ) (w : WrongLine) : Type 0 where
   pub config : BusConfig
   pub entries : List Entry
   pub front : IsFrontOf text config entries
   pub wrong : IsWrongIn config entries w
 
--- The text is not the front of a legal record's text.
+-- The text is not the beginning of a legal record's text.
 abbrev pub IsUncut : List ℕ → Type 0
 IsUncut text = (count : ℕ) → IsCutText text count → ⊥
 
--- The facts that follow from a faulty line, if the text may be cut off: the text is neither the text of a record nor
--- the front of a legal record's text. Lack of memory implies nothing.
+-- What a faulty line says about a text that may be cut off: the text is neither the text of a record nor the beginning
+-- of a legal record's text. Lack of memory says nothing about the text.
 abbrev pub FaultsUncut : List ℕ → ReadFault → Type 0
 FaultsUncut text read.NoMemory = Unit {0}
 FaultsUncut text why = Reads text (Err why) × IsUncut text
 
--- The facts about a text that follow from the audit's result after the end of the text, if the text may be cut off.
+-- What the audit's result at the end of the text says about a text that may be cut off.
 abbrev pub ReportsCut : List ℕ → Result Cut TextFault → Type 0
 ReportsCut text (Ok (cut.Whole count)) = IsLegalText text count
 ReportsCut text (Ok (cut.Off count)) = IsCutText text count
@@ -101,7 +101,7 @@ ReportsCut text (Err (fault.Wrong w)) = IsWrongText text w ⊎ IsWrongCut text w
 abbrev pub EndsLine : List ℕ → Type 0
 EndsLine bytes = (front : List ℕ) × (bytes ≡ front ++ 10 ∷ [])
 
--- The bytes are one line: they are not empty, and they have LF only at their end or not at all.
+-- The bytes are one line: they are not empty, and they contain no LF except possibly as the last byte.
 pub record IsLine (line : List ℕ) : Type 0 where
   pub some : line ≢ []
   pub stops : StopsAt line 10
@@ -110,11 +110,11 @@ pub record IsLine (line : List ℕ) : Type 0 where
 abbrev pub MayFollow : List ℕ → List ℕ → Type 0
 MayFollow line after = take_through 10 (line ++ after) ≡ line
 
--- A line was taken after all text before it was taken.
+-- The audit took the next line after the text before it.
 abbrev pub TakesOn : {A : Type 0} → (List ℕ → A → Type 0) → A → A → List ℕ → Type 0
 TakesOn {A} are old new line = (text : List ℕ) → are text old → IsLine line → are (text ++ line) new
 
--- All text before a line was taken, and the line is faulty, whatever bytes follow it.
+-- The audit took all text before a line. The line is faulty, whatever bytes follow it.
 abbrev pub FailsNext : {A : Type 0} → (List ℕ → A → Type 0) → A → List ℕ → ReadFault → Type 0
 FailsNext {A} are old line why =
     (text after : List ℕ) → are text old → IsLine line → MayFollow line after

@@ -11,17 +11,17 @@ use Rattle.can_frame.specs.Frames.{CanFrame}
 use Rattle.can_wire.specs.FrameBits.{frame_bits_of}
 use Rattle.can_wire.specs.Timings.{BusTiming, attempt_nanos_of, frame_nanos_of}
 
--- The parts of a line of events. They show the effects of an entry (own choice).
+-- The parts of a line of events, which show the effects of an entry (own choice).
 
 -- These words, with a space before each word.
 unfoldable pub parted : List (List ℕ) → List ℕ
 parted words = flat_map (λ (w : List ℕ). 32 ∷ w) words
 
--- A part of a line: a semicolon, then the words.
+-- A part of a line: a semicolon, followed by the words.
 abbrev pub part : List (List ℕ) → List ℕ
 part words = 59 ∷ parted words
 
--- A part that begins with this name, or nothing if no word follows the name.
+-- A part that begins with this name, or nothing if there are no words.
 abbrev pub part_named : List ℕ → List (List ℕ) → List ℕ
 part_named name [] = []
 part_named name (w ∷ ws) = part (name ∷ w ∷ ws)
@@ -41,19 +41,19 @@ counts_part i before after =
 unfoldable pub lost_part : ℕ → ℕ → List ℕ
 lost_part i n = if n == 0 then [] else part (codes "lost" ∷ decimal i ∷ decimal n ∷ [])
 
--- The word for an item that was queued to socket s: the socket's number. If the item is an error message frame, a colon
+-- The word for an item that was queued on socket s: the socket's number. If the item is an error message frame, a colon
 -- and the frame follow.
 abbrev pub put_word : ℕ → Item → List ℕ
 put_word s (item.Data f) = decimal s
 put_word s (item.Error e) = decimal s ++ 58 ∷ frame_spelling (item.Error e)
 
--- The word for the items that found no room at socket s, if there are any: the socket's number, a colon and the number
--- of items.
+-- The word for the items that were dropped because socket s had no room, if there are any: the socket's number, a colon
+-- and how many items.
 abbrev pub dropped_words : ℕ → ℕ → List (List ℕ)
 dropped_words s n = if n == 0 then [] else (decimal s ++ 58 ∷ decimal n) ∷ []
 
 -- The words for the times and the bits of a tried frame: the nanoseconds to its end of frame, the nanoseconds until the
--- next attempt may begin, and the numbers of bits at the nominal and at the data bit rate.
+-- next attempt may begin, and how many bits are sent at the nominal and at the data bit rate.
 abbrev pub wire_words : BusTiming → CanFrame → Class → Verdict → List (List ℕ)
 wire_words t f class v =
     codes "wire" ∷ decimal (frame_nanos_of t f) ∷ decimal (attempt_nanos_of t f class v)

@@ -8,10 +8,10 @@ use can_bus::{LeanRingBus, Record, Refusal, Reply};
 use std::alloc::Global;
 use thiserror::Error;
 
-/// Why a record is not legal, or could not be audited.
+/// The reason why a record is not legal or could not be audited.
 #[derive(Debug, Clone, Copy, PartialEq, Eq, Error)]
 pub enum AuditFault {
-    /// The place of the first wrong entry, counted from 0, and the reply that would be legal there. An entry is wrong if its reply
+    /// The index of the first wrong entry, counted from 0, and the reply that would be legal there. An entry is wrong if its reply
     /// does not follow from the entries before it, or if it exceeds the limit of entries. If it exceeds the limit, `legal` is
     /// `None`.
     #[error("entry {entry}: wrong")]
@@ -36,13 +36,10 @@ fn fault_at(entry: usize, reply: Reply) -> AuditFault
 }
 
 /// Checks that a record is a legal history: each reply follows from the entries before it, and the number of entries is within the
-/// limit. If not, `Wrong` gives the first wrong entry and the reply that would be legal there.
-///
-/// If the result is `Ok`, the headline property (`can_bus::run`) holds for the record.
-///
-/// The function carries out the events again on a bus that keeps no record. The running time is that of the bus's calls: it grows
-/// linearly with the number of entries and their filters. Only the bus, `open` and `set_filters` allocate memory. `NoMemory` means
-/// that an allocation failed; nothing is known about the record then.
+/// limit. If not, the `Wrong` error contains the first wrong entry and the reply that would be legal there. If the result is `Ok`,
+/// the headline property (`can_bus::run`) holds for the record. The function carries out the events again on a bus that keeps no
+/// record. The running time is that of the bus's calls: it grows linearly with the number of entries and their filters. Only the
+/// bus, `open` and `set_filters` allocate memory. `NoMemory` means that an allocation failed; the record may then be legal or not.
 pub fn audit(alloc: Global, record: &Record) -> Result<(), AuditFault>
     ensures legal { OnOk result (HasLegalHistory «record».now) }
     ensures headline { OnOk result (Headline «record».now.config «record».now.history) }

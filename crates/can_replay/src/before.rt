@@ -23,11 +23,11 @@ use std::marker::Model;
 /// `put_wanted_line`. `new` allocates all the memory.
 #[derive(Drop)]
 pub struct Before {
-    /// The error counters of the interfaces. The array always has 16 places.
+    /// The error counters of the interfaces. The array always has 16 elements.
     counters: [Counters; 16],
-    /// The number of frames lost so far by each interface.
+    /// The number of frames that each interface has lost so far.
     lost: Vec<u64>,
-    /// For each open socket, the numbers of unread and of dropped items.
+    /// For each open socket, how many items are unread and how many were dropped.
     sockets: Vec<Closed>,
 }
 
@@ -44,7 +44,7 @@ impl Model for Before {
 }
 
 impl Before {
-    /// Returns a value that describes no bus yet, with memory for 64 sockets.
+    /// Returns a value that contains no bus state yet, with memory for 64 sockets.
     pub fn new(alloc: Global) -> Result<Before, AllocError>
         ensures { IfOk result (λ b. b
             ≡ record { counters = replicate 16 at_start; lost = []; sockets = [] }) }
@@ -73,8 +73,8 @@ impl Before {
         see_sockets(&mut self.sockets, state)
     }
 
-    /// Writes the line of an attempt, a restart or a down as it is in the record, with the effects of the entry inserted before the
-    /// LF. The caller has called `look` before the entry.
+    /// Writes the line of an attempt, a restart or a down as in the record, with the effects of the entry inserted before the LF.
+    /// The caller must have called `look` before the entry.
     pub fn put_line(
         &self,
         out: &mut Vec<u8>,
@@ -91,9 +91,9 @@ impl Before {
         Ok(())
     }
 
-    /// Writes the same line as `put_line` with the wanted parts, preceded by lines for the rules that the bus takes before the
-    /// entry. An attempt that tried a frame changes the counts of the fault rules. So every attempt of a run that tried a frame has
-    /// to be written with this method, in order.
+    /// Writes the same line as `put_line`, with the wanted parts added. The lines for the rules that the bus accepts before the
+    /// entry come first. An attempt that tried a frame changes the counts of the fault rules. So every attempt of a run that tried
+    /// a frame must be written with this method, in order.
     pub fn put_wanted_line(
         &self,
         out: &mut Vec<u8>,
@@ -128,7 +128,7 @@ impl Before {
         self.put_parts(out, bus.state())
     }
 
-    // Writes the changes of the bus's state since `look`.
+    // Writes what has changed in the bus's state since `look`.
     fn put_parts(&self, out: &mut Vec<u8>, state: &RingState) -> Result<(), AllocError>
         ensures { OnOk result (out.new.items ≡ out.old.items ++ told_parts self.now state.now) }
     {
@@ -151,7 +151,7 @@ fn see_lost(lost: &mut Vec<u64>, state: &RingState) -> Result<(), AllocError>
     Ok(())
 }
 
-/// Stores the same numbers if the number of interfaces is different from before.
+/// Does the same as `see_lost` if the number of interfaces has changed.
 #[inline(never)]
 fn see_lost_anew(lost: &mut Vec<u64>, state: &RingState) -> Result<(), AllocError>
     ensures { OnOk result (lost.new.items ≡ (seen_in state.now).lost) }
@@ -163,7 +163,7 @@ fn see_lost_anew(lost: &mut Vec<u64>, state: &RingState) -> Result<(), AllocErro
     Ok(())
 }
 
-/// Stores the same numbers if the number of interfaces is the same as before.
+/// Does the same as `see_lost` if the number of interfaces has not changed.
 fn see_lost_again(lost: &mut [u64], state: &RingState)
     requires { length lost.old ≡ length state.now.interfaces }
     ensures { lost.new ≡ (seen_in state.now).lost }
@@ -173,7 +173,7 @@ fn see_lost_again(lost: &mut [u64], state: &RingState)
     }
 }
 
-/// Stores the numbers of unread and of dropped items of each open socket.
+/// Stores how many items are unread and how many were dropped at each open socket.
 fn see_sockets(sockets: &mut Vec<Closed>, state: &RingState) -> Result<(), AllocError>
     ensures { OnOk result (sockets.new.items ≡ (seen_in state.now).sockets) }
 {
@@ -184,7 +184,7 @@ fn see_sockets(sockets: &mut Vec<Closed>, state: &RingState) -> Result<(), Alloc
     Ok(())
 }
 
-/// Stores the same numbers if the number of open sockets is different from before.
+/// Does the same as `see_sockets` if the number of open sockets has changed.
 #[inline(never)]
 fn see_sockets_anew(sockets: &mut Vec<Closed>, state: &RingState) -> Result<(), AllocError>
     ensures { OnOk result (sockets.new.items ≡ (seen_in state.now).sockets) }
@@ -197,7 +197,7 @@ fn see_sockets_anew(sockets: &mut Vec<Closed>, state: &RingState) -> Result<(), 
     Ok(())
 }
 
-/// Stores the same numbers if the number of open sockets is the same as before.
+/// Does the same as `see_sockets` if the number of open sockets has not changed.
 fn see_sockets_again(sockets: &mut [Closed], state: &RingState)
     requires { length sockets.old ≡ length state.now.sockets }
     ensures { sockets.new ≡ (seen_in state.now).sockets }

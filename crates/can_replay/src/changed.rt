@@ -4,7 +4,7 @@ ghost use Rattle.can_replay.specs.inner.Seen.{dropped_in, put_in, told_dropped, 
 use can_bus::RingState;
 use can_event::Closed;
 
-/// How many sockets have to be examined to find every change. Sockets after these have not changed.
+/// How many sockets, counted from the first, have to be examined to find every change. The sockets after these have not changed.
 #[derive(Clone, Copy)]
 pub(crate) struct Ends {
     /// The number of sockets up to and including the last one with newly queued items.
@@ -72,7 +72,7 @@ fn has_changed(seen: Closed, state: &RingState, place: usize) -> (bool, bool)
     }
 }
 
-/// Returns the end just after this place if `is_later` is true, or else the old end.
+/// Returns the index just after `place` if `is_later` is true, and otherwise `end`.
 fn end_after(end: usize, place: usize, is_later: bool) -> usize
     requires { place + 1 < 2 ^ 64 }
     ensures { result ≡ (if is_later then place + 1 else end) }

@@ -20,7 +20,7 @@ use can_record_text::rooms::Rooms;
 use can_record_text::version::Version;
 use std::alloc::Global;
 
-/// The state of an audit after the second line: what is known about the lines taken so far.
+/// The state of an audit after the second line: what is known from the lines taken so far.
 #[derive(Drop)]
 pub struct EntryAudit {
     version: Version,
@@ -28,7 +28,7 @@ pub struct EntryAudit {
     /// The bus. It carries out the entries for as long as they are legal.
     bus: LeanRingBus,
     count: u32,
-    /// The features used by the entries that older versions of the text lack.
+    /// The features used by the entries that older versions of the text do not have.
     needs: Needs,
     wrong: Option<WrongLine>,
     is_ended: bool,
@@ -148,7 +148,7 @@ impl EntryAudit {
     }
 
     // Takes a line that appears to be an entry of this event, given that all entries before it are legal. It compares the line with
-    // the line for the event and the bus's reply.
+    // the line that is written for the event and the bus's reply.
     fn carry_event(
         &mut self,
         alloc: Global,
@@ -249,7 +249,7 @@ impl EntryAudit {
         Ok(())
     }
 
-    // Adds one to the number of entries, and adds the features that the entry needs.
+    // Counts one more entry, and adds the features that the entry needs.
     fn add(&mut self, needs: Needs)
         requires { self.old.count < 2 ^ 32 - 1 }
         ensures { self.new

@@ -17,7 +17,7 @@ use can_record_text::ReadFault;
 use can_record_text::rooms::Rooms;
 use std::alloc::{AllocError, Global};
 
-/// The text of the events of the legal entries, without the part that was cleared. Only whole lines are appended.
+/// The text of the events of the legal entries, without the part that was cleared. Only complete lines are appended.
 #[derive(Drop)]
 pub struct EventsText {
     text: Vec<u8>,
@@ -25,7 +25,7 @@ pub struct EventsText {
     line: Vec<u8>,
     /// The state of the bus before an attempt, a restart or a down.
     before: Before,
-    /// The other parts that are wanted in the lines. Its fault rules have been asked about all entries so far.
+    /// The other parts that are wanted in the lines. Its fault rules were queried for all entries so far.
     wanted: Wanted,
 }
 
@@ -72,7 +72,8 @@ impl EventsText {
         self.text.extend_from_slice(&self.line)
     }
 
-    /// Writes the lines of the rules that the bus takes, and of each end of all rules, after the last entry. No entry may follow.
+    /// Writes the lines for the rules that the bus accepts after the last entry, and for each removal of all rules. No entry may
+    /// follow.
     pub fn put_last_rules(&mut self, out: &mut Vec<u8>) -> Result<(), AllocError>
         ensures { OnOk result
             (out.new.items ≡ out.old.items ++ rules_at_end self.old.wanted.faults) }
@@ -156,7 +157,7 @@ impl EventsText {
         }
     }
 
-    // Writes the line of an attempt, a restart or a down with its parts. The audit has taken this line already.
+    // Writes the line of an attempt, a restart or a down with its parts. The audit has already taken this line.
     fn write_step(
         &mut self,
         alloc: Global,
@@ -185,7 +186,8 @@ impl EventsText {
         self.text.extend_from_slice(&self.line)
     }
 
-    // Does the same as `write_step` if other parts are wanted. It reads the line again, because it needs the entry.
+    // Does the same as `write_step` if other parts are wanted. It reads the entry from the line again, because the audit does not
+    // store it.
     #[inline(never)]
     fn write_wanted_parts(
         &mut self,

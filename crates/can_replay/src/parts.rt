@@ -23,7 +23,7 @@ pub(crate) fn put_all_counts(
     Ok(())
 }
 
-/// Writes the numbers of frames lost since `look`, in the order of the interfaces.
+/// Writes how many frames each interface has lost since `look`, in the order of the interfaces.
 pub(crate) fn put_all_lost(
     out: &mut Vec<u8>,
     before: &[u64],
@@ -59,8 +59,8 @@ pub(crate) fn put_queued(
     Ok(())
 }
 
-/// Writes the part that lists the numbers of items dropped since `look`, in the order of the sockets. It writes nothing if there
-/// are none.
+/// Writes the part that lists how many items were dropped at each socket since `look`, in the order of the sockets. It writes
+/// nothing if there are none.
 pub(crate) fn put_refused(
     out: &mut Vec<u8>,
     before: &[Closed],
@@ -80,7 +80,7 @@ pub(crate) fn put_refused(
     Ok(())
 }
 
-/// Removes the name of a part, which is at `start..end`, if nothing was written after it.
+/// Removes the name of a part, which is stored at `start..end`, if nothing was written after it.
 fn drop_bare(out: &mut Vec<u8>, start: usize, end: usize)
     ensures { out.new.items ≡
         (if length out.old.items == end then take start out.old.items else out.old.items) }
@@ -119,7 +119,7 @@ fn put_items(
     Ok(())
 }
 
-/// Writes one item of a socket if the socket has an item at this index.
+/// Writes one item of a socket, if the socket has an item at this index.
 fn put_item_at(
     out: &mut Vec<u8>,
     state: &RingState,

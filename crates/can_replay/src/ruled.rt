@@ -22,7 +22,7 @@ pub fn put_first_rules(out: &mut Vec<u8>, faults: &Option<RunFaults>) -> Result<
     }
 }
 
-/// Writes the lines of the rules that the bus takes, and of each end of all rules, after all attempts.
+/// Writes the lines for the rules that the bus accepts after all attempts, and for each removal of all rules.
 #[tactic(auto, unfolding(crate::specs::EventsText::rules_at_end))]
 pub fn put_last_rules(out: &mut Vec<u8>, faults: &mut Option<RunFaults>) -> Result<(), AllocError>
     ensures { OnOk result (out.new.items ≡ out.old.items ++ rules_at_end faults.old) }
@@ -34,7 +34,7 @@ pub fn put_last_rules(out: &mut Vec<u8>, faults: &mut Option<RunFaults>) -> Resu
 }
 
 /// Writes the lines of rules that come before the line of an entry. Returns the number of the rule that gave the attempt its
-/// verdict, or `None` if no rule did. The rules are asked only if the attempt tried a frame.
+/// verdict, or `None` if no rule did. The rules are queried only if the attempt tried a frame.
 #[tactic(auto, unfolding(crate::specs::EventsText::rules_before, crate::specs::EventsText::rule_in, crate::specs::EventsText::asked_of))]
 pub(crate) fn put_rules(
     out: &mut Vec<u8>,
@@ -52,7 +52,7 @@ pub(crate) fn put_rules(
     }
 }
 
-/// Does the same as `put_rules`, for these faults.
+/// Does the same as `put_rules`, with these faults of the run.
 fn put_rules_of(
     out: &mut Vec<u8>,
     run: &mut RunFaults,

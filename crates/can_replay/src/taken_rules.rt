@@ -1,4 +1,4 @@
-//! Writes the lines of the rules that a bus takes. The lines tell a reader which rule each number stands for.
+//! Writes the lines of the rules that a bus accepts. The lines show which rule each number stands for.
 ghost use Rattle.std.specs.Prelude.{◌≡◌, ◌++◌, ◌∷◌, [], codes, decimal, OnOk};
 ghost use Rattle.std.specs.List.{flat_map};
 ghost use Rattle.can_rules.specs.RunFaults.{made_until};
@@ -11,14 +11,14 @@ use std::alloc::AllocError;
 /// A buffer for the beginning of the line of a rule.
 type FrontText = Text<32>;
 
-/// Writes the lines of the script's rules, which the bus takes at the start. No attempt and no change may come before this call.
+/// Writes the lines of the script's rules, which the bus accepts at the start. No attempt and no change may come before this call.
 pub(crate) fn put_first(out: &mut Vec<u8>, faults: &RunFaults) -> Result<(), AllocError>
     ensures { OnOk result (out.new.items ≡ out.old.items ++ first_rules faults.now) }
 {
     put_rule_lines(out, faults.rules_left(), faults.names())
 }
 
-/// Makes the changes that come before the attempt with this number, and writes a line for each of them.
+/// Makes the changes that come before the attempt with this number, and writes a line for each change.
 pub(crate) fn put_until(
     out: &mut Vec<u8>,
     faults: &mut RunFaults,

@@ -21,12 +21,12 @@ use can_record_text::rooms::Rooms;
 use can_record_text::version::Version;
 use std::alloc::{AllocError, Global};
 
-/// How far an audit has come through the lines of a text.
+/// The part of a text that an audit has taken so far.
 #[derive(Drop)]
 enum Phase {
-    /// No line was taken yet.
+    /// No line has been taken yet.
     Start,
-    /// The first line was taken. It names the version.
+    /// The first line, which names the version, was taken.
     Front(Version),
     /// The line that describes the bus was taken, and possibly lines after it.
     Entries(EntryAudit),
@@ -34,11 +34,10 @@ enum Phase {
     Failed(ReadFault),
 }
 
-/// An audit that takes the lines of a text one after another and stores none of them.
-///
-/// Contracts name the text so far, which consists of the lines taken. A line ends with its LF. A line without an LF is the last of
-/// the text. After a faulty line each call returns the same fault. An audit with events also writes the events of the legal
-/// entries, and holds the part of that text that was not cleared.
+/// An audit that takes the lines of a text one after another and does not store them. Contracts name the text so far, which
+/// consists of the lines taken. A line ends with its LF. A line without an LF is the last line of the text. After a faulty line
+/// every call returns the same fault. An audit with events also writes the events of the legal entries, and holds the part of that
+/// text that was not cleared.
 #[derive(Drop)]
 pub struct TextAudit {
     phase: Phase,
@@ -75,8 +74,8 @@ impl TextAudit {
         })
     }
 
-    /// Returns the text of the events that was not cleared, in whole lines. It begins with the line of the format and the line of
-    /// the bus. A wrong entry and the lines after it add nothing.
+    /// Returns the text of the events that was not cleared, in complete lines. It begins with the line of the format and the line
+    /// of the bus. A wrong entry and the lines after it add nothing.
     pub fn events(&self) -> &[u8]
         ensures { result.now ≡ held_events self.now.events }
     {
@@ -102,7 +101,7 @@ impl TextAudit {
 
     /// Takes the next line of the text, including its LF if it has one. It reports a fault in the line at once; `finish` reports
     /// faults that concern the whole text. `NoMemory` means that an allocation failed, or that there are more than 4,294,967,295
-    /// entries; nothing is known about the text then.
+    /// entries; the text may then be legal or not.
     pub fn carry(&mut self, alloc: Global, line: &[u8]) -> Result<(), ReadFault>
         ensures taken { OnOk result (TakesOn AreTaken self.old self.new line.now) }
         ensures fault { IfErr result (FailsNext AreTaken self.old line.now) }
@@ -131,7 +130,7 @@ impl TextAudit {
         Err(why)
     }
 
-    // Takes a line if no line was faulty.
+    // Takes a line, unless an earlier line was faulty.
     fn take(&mut self, alloc: Global, line: &[u8]) -> Result<(), ReadFault>
         ensures taken { OnOk result (TakesOn AreTaken self.old self.new line.now) }
         ensures fault { IfErr result (FailsNext AreTaken self.old line.now) }
@@ -189,8 +188,8 @@ impl TextAudit {
         Ok(())
     }
 
-    /// Ends the text, and returns the lines for the rules, and for each end of all rules, after the last entry. If the events have
-    /// a last line, these lines belong before it.
+    /// Ends the text. Returns the lines for the rules that the bus accepts after the last entry, and for each removal of all rules.
+    /// If the text of the events has a last line, the returned lines belong before it.
     pub fn last_rules(&mut self, alloc: Global) -> Result<Vec<u8>, AllocError>
         ensures lines { IfOk result (λ lines. lines.items ≡ rules_last self.old.events) }
         ensures phase { self.new.phase ≡ self.old.phase }
@@ -202,7 +201,7 @@ impl TextAudit {
         Ok(lines)
     }
 
-    /// Ends the text, and returns the number of its record's entries if the record is legal.
+    /// Ends the text, and returns the number of entries in its record if the record is legal.
     pub fn finish(self) -> Result<usize, TextFault>
         ensures told { (text : List ℕ) → AreTaken text self → Reports text result }
         ensures again { (why : AFault) → HasFailed why self → result ≡ Err (TextFault.Read why) }
@@ -221,9 +220,9 @@ impl TextAudit {
         }
     }
 
-    /// Ends a text that may be cut off, and returns how much of it there is if its record is legal so far. `torn` contains the
-    /// bytes after the last LF, which were not taken. If the text is cut off, these bytes are not examined. A text that is cut off
-    /// within its first two lines is faulty.
+    /// Ends a text that may be cut off. If its record is legal so far, the result says whether the text is complete and how many
+    /// entries it contains. `torn` contains the bytes after the last LF, which were not taken. If the text is cut off, these bytes
+    /// are not examined. A text that is cut off within its first two lines is faulty.
     pub fn finish_cut(self, torn: &[u8]) -> Result<Cut, TextFault>
         ensures told { (text : List ℕ) →
             AreTaken text self → EndsNoLine torn.now → ReportsCut (text ++ torn.now) result }
@@ -243,7 +242,7 @@ impl TextAudit {
         }
     }
 
-    /// Returns the bus of the record if the line of the bus was taken and no line was faulty.
+    /// Returns the bus of the record if the line that describes the bus was taken and no line was faulty.
     pub fn bus(&self) -> Option<BusConfig>
         ensures { result ≡ bus_taken self.now.phase }
     {
@@ -253,7 +252,7 @@ impl TextAudit {
         }
     }
 
-    /// Returns the first line if it was taken and no line was faulty, or else no bytes.
+    /// Returns the first line if it was taken and no line was faulty, and otherwise an empty slice.
     pub fn first_line(&self) -> &'static [u8]
         ensures { result.now ≡ first_taken self.now.phase }
     {

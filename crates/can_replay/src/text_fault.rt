@@ -6,7 +6,7 @@ use thiserror::Error;
 /// The first wrong entry of a record. Its reply does not follow from the entries before it, or it exceeds the limit of entries.
 #[derive(Debug, Drop)]
 pub struct WrongLine {
-    /// The place of the entry, counted from 0.
+    /// The index of the entry, counted from 0.
     pub place: usize,
     pub entry: Entry,
     /// The reply that would be legal there, or `None` if the entry exceeds the limit.
@@ -22,7 +22,7 @@ impl fmt::Display for WrongLine {
     }
 }
 
-/// Why a text is not the text of a legal record.
+/// The reason why a text is not the text of a legal record.
 #[derive(Debug, Drop, Error)]
 pub enum TextFault {
     /// The text is not a record, or an allocation failed.
@@ -33,10 +33,10 @@ pub enum TextFault {
     Wrong(WrongLine),
 }
 
-/// How much of a text that may be cut off there is. The record is legal so far.
+/// Whether a text is complete or cut off, and how many entries it contains. The record is legal so far.
 #[derive(Debug, Clone, Copy, PartialEq, Eq)]
 pub enum Cut {
-    /// The text is complete, and its record has this many entries.
+    /// The text is complete, and its record contains this many entries.
     Whole(usize),
     /// The text is cut off before its last line, after the lines of this many entries.
     Off(usize),

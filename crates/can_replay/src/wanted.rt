@@ -4,10 +4,10 @@ use can_wire::Timing;
 /// The parts that are wanted in the lines of entries, in addition to the effects of the entries.
 #[derive(Drop)]
 pub struct Wanted {
-    /// The timing of the bus. If it is given, the line of each tried frame also has its times and its bits on the wire.
+    /// The timing of the bus. If it is given, the line of each tried frame also contains its times and its bits on the wire.
     pub timing: Option<Timing>,
-    /// The faults of the run. If they are given, each rule that the bus takes has a line, and the line of an attempt has the number
-    /// of the rule that gave its verdict.
+    /// The faults of the run. If they are given, each rule that the bus accepts has a line, and the line of an attempt contains the
+    /// number of the rule that gave its verdict.
     pub faults: Option<RunFaults>,
 }
 
@@ -15,7 +15,7 @@ impl Wanted {
     ghost use Rattle.std.specs.Prelude.{◌≡◌, IsTrue};
     ghost use Rattle.can_replay.specs.EventsText.{nothing_wanted};
 
-    /// Returns the value that asks for no additional parts.
+    /// Returns a value that requests no additional parts.
     pub fn nothing() -> Wanted
         ensures { result ≡ nothing_wanted }
     {

@@ -35,7 +35,7 @@ pub(crate) fn put_wire(
     put_tried(out, timing, tried, *verdict)
 }
 
-/// Writes the same part as `put_wire`, for a tried frame.
+/// Writes the same part as `put_wire`, for a frame that was tried.
 #[tactic(auto, unfolding(crate::specs::Words::parted))]
 fn put_tried(
     out: &mut Vec<u8>,
@@ -51,7 +51,7 @@ fn put_tried(
     out.extend_from_slice(part.as_bytes())
 }
 
-/// Appends the same part to a buffer.
+/// Appends the part that `put_tried` writes to a buffer.
 fn push_wire(part: &mut WireText, timing: Timing, tried: &Tried, verdict: Verdict)
     requires { part.old ≡ [] }
     ensures { part.new ≡ codes "; wire " ++ decimal (frame_nanos_of timing tried.now.frame) ++

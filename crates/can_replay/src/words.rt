@@ -30,7 +30,7 @@ pub(crate) fn put_counts(
     out.extend_from_slice(part.as_bytes())
 }
 
-/// Appends the same part to a buffer.
+/// Appends the part that `put_counts` writes to a buffer.
 fn push_counts(part: &mut PartText, iface: usize, after: Counters)
     requires { part.old ≡ [] }
     ensures { part.new ≡ codes "; counts " ++ decimal iface ++
@@ -83,7 +83,7 @@ fn push_item(word: &mut WordText, id: SocketId, item: &Item)
     }
 }
 
-/// Writes the number of items dropped at a socket, if any were dropped.
+/// Writes how many items were dropped at a socket, if any were dropped.
 #[tactic(auto, unfolding(crate::specs::Words::parted))]
 pub(crate) fn put_dropped(out: &mut Vec<u8>, id: SocketId, count: u64) -> Result<(), AllocError>
     ensures { OnOk result (out.new.items ≡ out.old.items ++ parted (dropped_words id.0 count)) }

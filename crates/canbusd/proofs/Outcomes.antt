@@ -7,9 +7,9 @@ use Rattle.canbusd_options.specs.declared.command_line.Job.TheVariants as job
 use Rattle.canbusd_audit.specs.Audited.{IsAudited, IsAuditedBy, ifaces_named}
 use Rattle.canbusd.specs.Outcomes.{IsDone}
 
--- A finished job, and the output after it.
+-- A finished job stays finished if its output is kept.
 
--- an audit that is done remains done if its output is kept
+-- an audit that succeeded still counts as done if its output is kept
 whole-kept : (asked : Option Wanted) (ifaces : Option ℕ) (text : List ℕ) (old mid new : Option (List ℕ)) → IsAudited asked ifaces text old mid → Keeps mid new → IsAudited asked ifaces text old new
 whole-kept asked ifaces text old mid new done kept = record {
   config = done.config;
@@ -33,7 +33,7 @@ audited-kept true asked ifaces text old mid new (inr done) kept = inr (record {
   wrote = Appends-kept old mid new _ done.wrote kept;
 })
 
--- a job that is done remains done if its output is kept
+-- a job that succeeded still counts as done if its output is kept
 pub done-kept : {W : Type 0} (contents : W → Option (List ℕ)) (j : Job) (input : Option (List ℕ)) (old mid new : W) → IsDone contents j input old mid → Keeps (contents mid) (contents new) → IsDone contents j input old new
 done-kept contents (job.Bench o) input old mid new done kept = record {
   named = done.named;

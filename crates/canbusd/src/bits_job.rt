@@ -9,7 +9,8 @@ use canbusd_options::BitsOptions;
 use std::alloc::Global;
 use std::io::Write;
 
-/// Writes the bits of a frame. For each other frame, it also writes the bit at which the sender of that frame stops sending.
+/// Writes the bits of a frame. For each other frame in the options, it also writes the bit at which the sender of that frame stops
+/// sending.
 pub fn write_bits<'a, W: Write>(
     alloc: Global,
     options: &BitsOptions,

@@ -1,14 +1,11 @@
-//! canbusd: simulated CAN buses in user space.
-//!
-//! `canbusd bench BUS` reads lines that open sessions, feed commands to them and put frames on one bus, and writes the replies of
-//! the sessions. `canbusd serve BUS..` serves clients over sockets. `canbusd audit FILE..` checks the record of a run.
-//! `canbusd bits FRAME` writes the bits of a frame. The module `program` carries out a command line and returns its exit status.
-//! The crate canbusd_options reads the command line. The jobs are in canbusd_bench, canbusd_serve and canbusd_audit, except the job
-//! of `bits`, which is in this crate.
-//!
-//! Three properties are proved here. No command line, file or input makes a function fail, and only `serve` waits for other
-//! programs. Status 0 of `run_words` means that the requested job was done, or help was requested, and its output was written.
-//! Status 2 means that the command line does not ask for a job.
+//! canbusd: simulated CAN buses in user space. `canbusd bench BUS` reads lines that open sessions, send commands to them and put
+//! frames on one bus, and writes the replies of the sessions. `canbusd serve BUS..` serves clients over sockets. `canbusd audit
+//! FILE..` checks the record of a run. `canbusd bits FRAME` writes the bits of a frame. The module `program` carries out a command
+//! line and returns its exit status. The crate canbusd_options parses the command line. The jobs are in canbusd_bench,
+//! canbusd_serve and canbusd_audit, except the job of `bits`, which is in this crate. Three properties are proved here. No command
+//! line, file or input makes a function fail, and only `serve` waits for other programs. Status 0 of `run_words` means that the
+//! requested job was done, or help was requested, and its output was written. Status 2 means that the command line does not request
+//! a job.
 #![tactic(auto)]
 
 mod bits_job;
@@ -23,7 +20,7 @@ use std::rt::Env;
 use std::{env, io};
 
 fn main(rt: HostRuntime) -> ExitCode {
-    // The checker must see the socket types of the system before a server uses them.
+    // The checker has to see the system's socket types before a server uses them.
     let _types: Option<(TcpListener, TcpStream)> = None;
     let alloc = rt.alloc();
     let errors = &mut rt.stderr();

@@ -23,13 +23,11 @@ const FAILED: u8 = 1;
 
 const BAD_WORDS: u8 = 2;
 
-/// Carries out a command line, which begins with the program's name, and returns its exit status.
-///
-/// Status 0 means that the requested job was done, or help was requested, and all output was written. Status 1 means a fault: a
-/// line `canbusd: TEXT` and its notes are written to `errors`. If not all output was written, the status is 1 and the text is
-/// `write fault`. Status 2 means that the command line does not ask for a job, and the error text is that of the parser.
-///
-/// A server may wait for its clients forever. Other jobs wait only for their input.
+/// Carries out a command line, which begins with the program's name, and returns its exit status. Status 0 means that the requested
+/// job was done, or help was requested, and all output was written. Status 1 means an error: a line `canbusd: TEXT` and its notes
+/// are written to `errors`. If not all output was written, the status is 1 and the error message is `write fault`. Status 2 means
+/// that the command line does not request a job, and the error message is the parser's. A server may wait for its clients
+/// indefinitely. Other jobs wait only for their input.
 pub fn run_words<
     H: ServerRuntime,
     R: Read + Drop + Send + 'static,
@@ -104,7 +102,7 @@ fn do_job<'a, H: ServerRuntime, R: Read + Drop + Send + 'static, W: Write + Drop
     Ok(true)
 }
 
-// Reports an error in the command line, or writes the help that it asks for. Returns the exit status.
+// Reports an error in the command line, or writes the help that it requests. Returns the exit status.
 fn tell_words<W: Write + Drop, E: Write>(
     alloc: Global,
     error: &Error,
@@ -127,7 +125,7 @@ fn tell_words<W: Write + Drop, E: Write>(
     finish(alloc, outcome, output, errors)
 }
 
-// Flushes the output, even after a fault, and reports an error in doing so. Returns the exit status.
+// Flushes the output, even if the job failed, and reports an error in doing so. Returns the exit status.
 fn finish<W: Write + Drop, E: Write>(
     alloc: Global,
     outcome: Result<(), Report<'_>>,
@@ -150,7 +148,7 @@ fn finish<W: Write + Drop, E: Write>(
     }
 }
 
-// Returns the report of output that was not written: the report of the job if it is about writing, and otherwise `late`.
+// Returns the report for output that was not written: the report of the job if it concerns writing, and otherwise `late`.
 fn write_fault<'a>(outcome: Result<(), Report<'a>>, late: Report<'a>) -> Report<'a> {
     let Err(failure) = outcome else {
         return late;
@@ -163,7 +161,7 @@ fn write_fault<'a>(outcome: Result<(), Report<'a>>, late: Report<'a>) -> Report<
     }
 }
 
-/// Reports the fault of a command line and returns the exit status.
+/// Reports the error of a command line and returns the exit status.
 pub fn fail<E: Write>(failure: &Report<'_>, errors: &mut E) -> u8
     ensures { result ≡ 1 }
 {

@@ -1,4 +1,4 @@
--- The events that were written before a fault of the text.
+-- The events that were written before an error in the text.
 use Rattle.std.proofs.Common.{◌≡◌, ◌≢◌, ◌+◌, ◌⊎◌, ℕ, inl, inr, Bool, true, false, List, [], ◌∷◌, ◌++◌, Option, Some, None, Result, Ok, Err, arith, append-nil, length, refl, sym, ap, subst, ◌∙◌}
 use Rattle.std.specs.Prelude.{reverse}
 use Rattle.std.proofs.lemmas.List.Elements.{All-nil}
@@ -41,7 +41,8 @@ use Rattle.canbusd_audit.proofs.Underway.{follows, puts_more, same_output}
 
 -- ---- the fault
 
--- an audit may have this fault; if the fault names a wrong entry, this is the first wrong entry of those that were read
+-- an audit may report this error; if the error names a wrong entry, this is the first wrong entry of those that were
+-- read
 abbrev pub Names : ProgramError → Phase → Type 0
 Names (fault.WrongEntry k) p = (w : WrongLine) × (wrong_so_far p ≡ Some w) × (w.place ≡ k)
 Names (fault.Record what) p = Unit {0}
@@ -62,14 +63,14 @@ pub names_told : (what : TextFault) (why : ProgramError) (p : Phase) → ((w : W
 names_told (found.Read what) why p wrong is = subst (λ (w : ProgramError). Names w p) (sym is) tt
 names_told (found.Wrong w) why p wrong is = subst (λ (x : ProgramError). Names x p) (sym is) (w, wrong w refl, refl)
 
--- ---- the place where the taken lines stop
+-- ---- the point in the text at which the taken lines stop
 
--- what the fault of a line says about a text
+-- what the error in a line says about a text
 abbrev pub Says : List ℕ → ProgramError → Type 0
 Says text (fault.Record what) = Reads text (Err what)
 Says text why = Unit {0}
 
--- the lines stop at a fault of a file or of memory, or at bytes that do not continue a record
+-- the lines stop at a file error or lack of memory, or at bytes that do not continue a record
 abbrev pub Stops : (text rest : List ℕ) → Phase → ProgramError → Type 0
 Stops text rest p why = IsUnread why ⊎ (((come : HasCome text p) → LacksNext text rest p come) × Says (text ++ rest) why)
 
@@ -90,7 +91,7 @@ line_stops text line rest audit (read.BadLine n) why taken is end fails (inl sam
     subst (Stops text (line ++ rest) audit.phase) (sym same)
     (inr (line_lacks text line rest (read.BadLine n) (λ no. absurd cc) is end (may rest) (λ more. fails text more taken is (may more)) audit.phase, fails text rest taken is (may rest)))
 
--- ---- a text that does not begin as a record does
+-- ---- a text that does not begin like a record
 
 pub unread_none : (text : List ℕ) (why : ProgramError) → IsUnread why → HasNoEvents text why
 unread_none text (fault.Record read.NoMemory) h = tt
@@ -128,7 +129,7 @@ part_count : List Entry → Option WrongLine → ℕ
 part_count es None = length es
 part_count es (Some w) = w.place
 
--- the first `count` entries are legal, and the next one, if any, is the first wrong entry
+-- the first `count` entries are legal, and the next one, if there is one, is the first wrong entry
 record Part (c : BusConfig) (es : List Entry) (o : Option WrongLine) (count : ℕ) : Type 0 where
   legal : IsLegal c (before es count)
   last : (count ≡ length es) ⊎ IsFirstWrongEntry c es count
@@ -141,7 +142,7 @@ part_of c es None settled =
     record { legal = subst (IsLegal c) (sym all) settled; last = inl refl; part = sym all }
 part_of c es (Some w) settled = record { legal = settled.told.first.legal_before; last = inr settled.told.first; part = refl }
 
--- what follows the entries that were read, given where the lines stop
+-- what follows the entries that were read, for this reason to stop
 After : (text rest : List ℕ) (b : EntryAudit) → IsGoing text b → ProgramError → Type 0
 After text rest b g why = IsUnread why ⊎ (LacksEntry b.version b.config (last_of b.is_ended g.read.entries ++ rest) × Says (text ++ rest) why)
 
@@ -200,7 +201,7 @@ by_kind : {W : Type 0} (v : Wanted) (ifaces : Option ℕ) (first : Option (List 
 by_kind v ifaces first text rest events p None why contents start out w names is stops fits put = put
 by_kind v ifaces first text rest events p (Some e) why contents start out w names is stops fits put = (text ++ rest, is, front_at v ifaces text rest events p e why (contents start) (contents out) w names stops fits put)
 
--- the output after a fault, if all events of these lines were written
+-- the output after an error, if all events of these lines were written
 pub leaves_front : {W : Type 0} (v : Wanted) (ifaces : Option ℕ) (first : Option (List ℕ)) (text rest events : List ℕ) (audit : TextAudit) (why : ProgramError) (contents : W → Option (List ℕ)) (start out : W) → HasWritten v text events audit
     → Names why audit.phase → IsTextIn first (text ++ rest) → Stops text rest audit.phase why → FitsBus ifaces (bus_taken audit.phase) → Puts (has_events audit.events) contents start out (events ++ held_events audit.events) → LeavesFront (output_of v audit.events) ifaces first why contents start out
 leaves_front v ifaces first text rest events audit why contents start out w names is stops fits put = by_kind v ifaces first text rest events audit.phase audit.events why contents start out w names is stops fits put
@@ -208,7 +209,7 @@ leaves_front v ifaces first text rest events audit why contents start out w name
 pub none_more : {W : Type 0} (has : Bool) (contents : W → Option (List ℕ)) (start out : W) (events held : List ℕ) → held ≡ [] → Puts has contents start out events → Puts has contents start out (events ++ held)
 none_more has contents start out events held none put = subst (Puts has contents start out) (sym (ap (λ (x : List ℕ). events ++ x) none ∙ append-nil events)) put
 
--- the output after a fault, if the audit holds no events
+-- the output after an error, if the audit does not collect events
 leaves_put : {W : Type 0} (v : Wanted) (ifaces : Option ℕ) (first : Option (List ℕ)) (text rest events : List ℕ) (begun : Option EventsText) (audit : TextAudit) (why : ProgramError) (contents : W → Option (List ℕ)) (start out : W) → has_events begun ≡ has_events audit.events
     → held_events audit.events ≡ [] → HasWritten v text events audit → Names why audit.phase → IsTextIn first (text ++ rest) → Stops text rest audit.phase why → FitsBus ifaces (bus_taken audit.phase) → Puts (has_events audit.events) contents start out events → LeavesFront (output_of v begun) ifaces first why contents start out
 leaves_put v ifaces first text rest events begun audit why contents start out kind none w names is stops fits put =
@@ -236,7 +237,7 @@ text_left (Some all) None new before text left h k is = absurd h
 text_left (Some all) (Some xs) None before text left h k is = absurd k
 text_left (Some all) (Some xs) (Some rest) before text left h k is = sym (k ∙ ap (λ (x : List ℕ). text ++ x) is)
 
--- ---- a fault while lines are read
+-- ---- an error while lines are read
 
 -- reading failed, or memory was refused
 pub leaves_unread : {W : Type 0} (v : Wanted) (ifaces : Option ℕ) (first now : Option (List ℕ)) (begun : Option EventsText) (audit : TextAudit) (why : ProgramError) (contents : W → Option (List ℕ)) (start out : W) → has_events begun ≡ has_events audit.events → held_events audit.events ≡ []
@@ -246,7 +247,7 @@ leaves_unread v ifaces first now begun audit why contents start out kind none fi
     let t = text_with first now u.text u.consumed in
     leaves_put v ifaces first u.text t.0 p.events begun audit why contents start out kind none u.written (names_reading why audit.phase reading) t.1 (inl (unread why reading)) fits p.put
 
--- the line that was read is at fault
+-- the line that was read is invalid
 pub leaves_line : {W : Type 0} (v : Wanted) (ifaces : Option ℕ) (first now after : Option (List ℕ)) (line : List ℕ) (begun : Option EventsText) (audit : TextAudit) (what : ReadFault) (why : ProgramError) (contents : W → Option (List ℕ)) (start out : W) → has_events begun ≡ has_events audit.events
     → held_events audit.events ≡ [] → FitsBus ifaces (bus_taken audit.phase) → IsPut v first now audit contents start out → IsRead now after line → FailsNext AreTaken audit line what → IsOfLine what why → LeavesFront (output_of v begun) ifaces first why contents start out
 leaves_line v ifaces first now after line begun audit what why contents start out kind none fits p read fails of =
@@ -259,7 +260,7 @@ left_stops : (text left : List ℕ) (audit : TextAudit) (what : ReadFault) (why 
 left_stops text left audit what why taken w of =
     subst (λ (x : List ℕ). Stops text x audit.phase why) (sym w.begins) (line_stops text w.line w.rest audit what why taken w.is_line w.ended w.wrong of)
 
--- the bus still has the wanted number of interfaces, because no other bus became known
+-- the bus still has the wanted number of interfaces, because the bus is the same as before
 fits_still : (ifaces : Option ℕ) (text more : List ℕ) (p q : Phase) → HasCome text p → HasCome (text ++ more) q → (bus_taken p ≡ None → bus_taken q ≡ None) → FitsBus ifaces (bus_taken p) → FitsBus ifaces (bus_taken q)
 fits_still ifaces text more (phase.Entries b) (phase.Entries d) come then unknown fits = subst (HasIfaces ifaces) (same_bus text more (phase.Entries b) (phase.Entries d) b.config d.config come then refl refl) fits
 fits_still ifaces text more phase.Start (phase.Entries d) come then unknown fits = absurd (none-some d.config (sym (unknown refl)))
@@ -269,7 +270,7 @@ fits_still ifaces text more p phase.Start come then unknown fits = tt
 fits_still ifaces text more p (phase.Front version) come then unknown fits = tt
 fits_still ifaces text more p (phase.Failed what) come then unknown fits = tt
 
--- the events of the lines before a fault were written too
+-- the events of the lines before an error were also written
 pub leaves_stopped : {W : Type 0} (v : Wanted) (ifaces : Option ℕ) (first old new : Option (List ℕ)) (begun : Option EventsText) (before after : TextAudit) (what : ReadFault) (why : ProgramError) (contents : W → Option (List ℕ)) (start out end : W) → has_events before.events ≡ has_events begun
     → has_events after.events ≡ has_events before.events → FitsBus ifaces (bus_taken before.phase) → IsPut v first old before contents start out → AuditStopsAfter old new before what after → Puts (has_events after.events) contents out end (held_events after.events) → IsOfLine what why
     → LeavesFront (output_of v begun) ifaces first why contents start end
@@ -318,7 +319,7 @@ is_other None o why h = absurd h
 is_other (Some n) None why h = absurd h
 is_other (Some n) (Some c) why h = h.0
 
--- after the fault of another bus, no events are written
+-- after the error for another bus, no events are written
 leaves_other : {W : Type 0} (v : Wanted) (ifaces : Option ℕ) (first now after : Option (List ℕ)) (begun : Option EventsText) (audit next : TextAudit) (why : ProgramError) (contents : W → Option (List ℕ)) (start out : W) → has_events begun ≡ has_events audit.events
     → held_events audit.events ≡ [] → (p : IsPut v first now audit contents start out) → (on : IsUnderway v first after next p.events) (more : List ℕ) → on.text ≡ p.underway.text ++ more → FitsBus ifaces (bus_taken audit.phase) → IsOtherBus ifaces (bus_taken next.phase) why
     → LeavesFront (output_of v begun) ifaces first why contents start out
@@ -338,7 +339,7 @@ of_other (Some n) first text rest (phase.Entries b) why is come other =
     subst (IsOfOtherBus (Some n) first) (sym other.0) (text ++ rest, is, b.config, has_bus text rest (phase.Entries b) b.config come refl, other.1)
 of_other (Some n) first text rest (phase.Failed what) why is come other = absurd other
 
--- the fault of an audit that stops while lines are read, because the writer failed or the bus is not the wanted one
+-- the error of an audit that stops while lines are read, because writing failed or the bus is not the wanted one
 pub known_told : {W : Type 0} (v : Wanted) (has asks : Bool) (ifaces : Option ℕ) (first now : Option (List ℕ)) (audit : TextAudit) (events : List ℕ) (why : ProgramError) (out new : W) → has ≡ asks → IsUnderway v first now audit events
     → StopsEvents has why ⊎ (IsOtherBus ifaces (bus_taken audit.phase) why × (new ≡ out)) → StopsEvents asks why ⊎ (IsOfOtherBus ifaces first why ⊎ FaultsLine first why)
 known_told v has asks ifaces first now audit events why out new same u (inl h) = inl (subst (λ (b : Bool). StopsEvents b why) same h)
@@ -357,7 +358,7 @@ known_left v ifaces first now after begun audit next why contents start out new 
 known_left v ifaces first now after begun audit next why contents start out new kind none p on more is fits (inr h) =
     inr (subst (LeavesFront (output_of v begun) ifaces first why contents start) (sym h.1) (leaves_other v ifaces first now after begun audit next why contents start out kind none p on more is fits h.0))
 
--- before the first line, the bus is not known
+-- before the first line is taken, the bus is not known
 pub fits_at_start : (ifaces : Option ℕ) (p : Phase) → HasCome [] p → FitsBus ifaces (bus_taken p)
 fits_at_start ifaces phase.Start come = tt
 fits_at_start ifaces (phase.Front version) come = tt

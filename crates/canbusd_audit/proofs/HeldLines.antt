@@ -1,4 +1,4 @@
--- The lines that a reader has buffered.
+-- The complete lines in the buffer of a reader.
 use Rattle.std.proofs.Common.{◌≡◌, ◌≢◌, ◌+◌, ◌-◌, ◌<◌, ℕ, List, [], ◌∷◌, ◌++◌, All, length, take, drop, Option, Some, None, Result, Ok, Err, IfOk, append-nil, append_assoc, arith, eqb-true, eq-eqb, get_or, get_or-take, length-take-le, refl, sym, ap, subst, ◌∙◌}
 use Rattle.std.proofs.Math.Seq.{take-add}
 use Rattle.std.proofs.Transfers.{StopsAt-take}
@@ -69,7 +69,7 @@ pub takes_more : (held : List ℕ) (len place : ℕ) (old now new : TextAudit) �
 takes_more held len place old now new found taken step w text events start =
     subst (λ (x : List ℕ). HasWritten w x events new) (one_more held len place text) (step w events (text ++ take len held) (taken w text events start) (is_line (drop len held) place found))
 
--- the next line is at fault
+-- the next line is invalid
 pub fails_in : (held : List ℕ) (len place : ℕ) (old now : TextAudit) (why : ReadFault) → IsFirstByte (is_byte 10) (drop len held) (Some place) → TakesMore old (take len held) now
     → ((text after : List ℕ) → AreTaken text now → IsLine (take (place + 1) (drop len held)) → MayFollow (take (place + 1) (drop len held)) after → Reads (text ++ (take (place + 1) (drop len held) ++ after)) (Err why))
     → IsWrongNext old held why
@@ -85,7 +85,7 @@ fails_in held len place old now why found taken step =
           subst (λ (x : List ℕ). Reads x (Err why)) (with_more held len place text after) (step (text ++ take len held) after (taken w text events start).taken (is_line left place found) (may_follow left place found after));
     }
 
--- the bytes that were not taken begin with the line at fault
+-- the bytes that were not taken begin with the invalid line
 pub begins_wrong : (held : List ℕ) (len place : ℕ) (now : TextAudit) (why : ReadFault) → IsFirstByte (is_byte 10) (drop len held) (Some place)
     → ((text after : List ℕ) → AreTaken text now → IsLine (take (place + 1) (drop len held)) → MayFollow (take (place + 1) (drop len held)) after → Reads (text ++ (take (place + 1) (drop len held) ++ after)) (Err why))
     → BeginsWrong now (drop len held) why
@@ -100,7 +100,7 @@ begins_wrong held len place now why found step =
       wrong = step;
     }
 
--- ---- the bytes that a reader shows
+-- ---- the buffered bytes of a reader
 
 pub goes_on_by : (old new : Option (List ℕ)) (before after : TextAudit) (bytes : List ℕ) → Consumes old new bytes → TakesMore before bytes after → AuditGoesOn old new before after
 goes_on_by old new before after bytes consumed taken = λ w first events u.
@@ -112,7 +112,7 @@ still_there old new audit (Err e) kept is = tt
 still_there old new audit (Ok b) kept is = subst (λ (h : Buffered). BecomesOf h old new audit audit) (sym is) (λ w first events u.
     (record { text = u.text; consumed = Consumes-kept first old new u.text u.consumed kept; written = u.written }, [], sym (append-nil u.text)))
 
--- the buffered bytes begin with lines that are at fault
+-- one of the complete lines at the start of the buffered bytes is invalid
 held_fault : (v : Wanted) (text events held after : List ℕ) (audit : TextAudit) (why : ReadFault) → HasWritten v text events audit → IsWrongNext audit held why → FaultsUncut (text ++ (held ++ after)) why
 held_fault v text events held after audit why written w =
     let whole : (text ++ w.lines) ++ (w.rest ++ after) ≡ text ++ (held ++ after) =
@@ -157,7 +157,7 @@ begins_more audit next more why w = record {
   wrong = w.wrong;
 }
 
--- the lines before a fault were taken
+-- the lines before an error were taken
 pub stops_after : (old new : Option (List ℕ)) (before after : TextAudit) (held : List ℕ) (len : ℕ) (found : Option ReadFault) (why : ReadFault) → found ≡ Some why → Consumes old new (take len held) → IfSome old (λ xs. StartsWith xs held)
     → IfSome found (λ why. HoldsBefore before (take len held) (drop len held) why after) → AuditStopsAfter old new before why after
 stops_after old new before after held len None why is consumed shows holds = absurd cc

@@ -1,4 +1,4 @@
--- The result that is reported for a text that has ended.
+-- The result that is reported at the end of a text.
 use Rattle.std.proofs.Common.{◌≡◌, ◌≢◌, ◌⊎◌, ◌<◌, ℕ, inl, inr, Bool, true, false, nat_le, List, [], ◌∷◌, ◌++◌, Option, Some, None, Result, Ok, Err, IfErr, IfOk, OnOk, ap, append-nil, arith, get_or, if◌then◌else◌, length, map, refl, rules, sym, ◌∙◌, subst}
 use Rattle.std.specs.Result.{IsErrAnd}
 use denote.Ref.{Bor}
@@ -80,16 +80,17 @@ bus_of_record text c es whole = (version_of c es, entry_lines es (spell (end_wor
 bus_of_front : (text : List ℕ) (c : BusConfig) (es : List Entry) → IsFrontOf text c es → HasBus text c
 bus_of_front text c es front = (front.version, entry_lines es front.torn, front.good.bus, front.begins)
 
--- an audit without events has no rules at its end
+-- an audit without events has no lines about rules at its end
 no_rules : (held : Option EventsText) (ws : List ℕ) → has_events held ≡ false → ws ≡ rules_last held → ws ≡ []
 no_rules None ws kind is = is
 no_rules (Some e) ws kind is = absurd cc
 
--- the held events are empty, so they do not change what was written
+-- the events that are still held are empty, so they do not change what was written
 none_between : (events held last : List ℕ) → held ≡ [] → events ++ last ≡ (events ++ held) ++ last
 none_between events held last none = ap (λ (x : List ℕ). x ++ last) (sym (ap (λ (x : List ℕ). events ++ x) none ∙ append-nil events))
 
--- the output of the audit of a legal record: its events if it has events, the last rules, and the last line
+-- the output of the audit of a legal record: its events if the audit collects them, the last lines about rules, and the
+-- last line
 whole_written : {W : Type 0} (asked : Option Wanted) (ifaces : Option ℕ) (held : Option EventsText) (ws : List ℕ) (contents : W → Option (List ℕ)) (start out new : W) (text events : List ℕ) (count : ℕ) → has_events held ≡ asks_events asked → held_events held ≡ [] → ws ≡ rules_last held
     → Puts (asks_events asked) contents start out events → EndsEvents (wanted_of asked) held text events count → IsLegalText text count → ((c : BusConfig) → HasBus text c → HasIfaces ifaces c) → Appends (contents out) (contents new) (ws ++ last_line (asks_events asked) count) → IsAudited asked ifaces text (contents start) (contents new)
 whole_written {W = W} None ifaces held ws contents start out new text events count kind none rules put ends h named wrote =
@@ -147,7 +148,7 @@ told text (Ok count) why h is = subst (Faults text) (sym is) (record { config = 
 told text (Err (found.Read what)) why h is = subst (Faults text) (sym is) h
 told text (Err (found.Wrong w)) why h is = subst (Faults text) (sym is) (record { config = h.config; entries = h.entries; whole = h.whole; says = h.wrong.told.first })
 
--- what a fault says about a text that may be cut off
+-- what an error says about a text that may be cut off
 told_cut : (text : List ℕ) (r : Result Cut TextFault) (why : ProgramError) → ReportsCut text r → IsTold r why → FaultsBy true text why
 told_cut text (Ok (cut.Whole count)) why h is = inl (subst (FaultsWhole text) (sym is) (record { config = h.config; entries = h.entries; whole = h.whole; says = tt }))
 told_cut text (Ok (cut.Off count)) why h is = inr (subst (IsBlamedCut text) (sym is) (record { config = h.config; entries = h.entries; front = h.front; says = tt }))
@@ -162,9 +163,9 @@ plain text (fault.Record read.BadVersion) h = h.0
 plain text (fault.Record (read.BadLine n)) h = h.0
 plain text why h = h
 
--- ---- the result that is reported for the text that a reader had
+-- ---- the result that is reported for the text from a reader
 
--- the fault of a line is a fault of the text
+-- the error in a line is an error in the text
 pub line_told : (first : Option (List ℕ)) (why : ProgramError) → FaultsLine first why → FaultsInput first why
 line_told first why h = (h.0, h.1, plain h.0 why h.2)
 
@@ -180,7 +181,7 @@ pub record IsReady {W : Type 0} (w : Wanted) (first : Option (List ℕ)) (audit 
 pub ready : {W : Type 0} (w : Wanted) (first : Option (List ℕ)) (audit : TextAudit) (torn : List ℕ) (contents : W → Option (List ℕ)) (start out : W) → IsInputTaken w first audit torn contents start out → IsReady w first audit torn contents start out
 ready w first audit torn contents start out t = record { text = t.lines; events = t.events; is_text = t.is_text; written = t.written; none_held = t.none_held; put = t.put }
 
--- the last line was taken too, if there is one
+-- the last line, if there is one, was also taken
 pub ready_last : {W : Type 0} (w : Wanted) (first : Option (List ℕ)) (before after last : TextAudit) (torn : List ℕ) (contents : W → Option (List ℕ)) (start out new : W) → IsInputTaken w first before torn contents start out → TakesLast before torn after
     → has_events after.events ≡ has_events before.events → has_events last.events ≡ has_events after.events → ((w : Wanted) (text events : List ℕ) → HasWritten w text events after → HasWritten w text (events ++ held_events after.events) last)
     → held_events last.events ≡ [] → Puts (has_events after.events) contents out new (held_events after.events) → IsReady w first last [] contents start new
@@ -194,7 +195,7 @@ ready_last w first before after last torn contents start out new t takes kind ki
       (puts_more (has_events after.events) contents start out new t.events (held_events after.events) (subst (λ (b : Bool). Puts b contents start out t.events) (sym kind) t.put) put);
 }
 
--- the bus of the whole text is the bus that was checked
+-- the bus of the whole text is the bus whose interfaces were counted
 fitting : (ifaces : Option ℕ) (text torn : List ℕ) (p : Phase) (c : BusConfig) → HasCome text p → EndsNoLine torn → HasBus (text ++ torn) c → FitsBus ifaces (bus_taken p) → HasIfaces ifaces c
 fitting ifaces text torn p c come unended bus fits = subst (FitsBus ifaces) (bus_is text torn p c come unended bus) fits
 
@@ -215,9 +216,9 @@ pub all_told : {W : Type 0} (w : Wanted) (first : Option (List ℕ)) (audit : Te
 all_told w first audit contents start out found (Ok u) t tells h = tt
 all_told w first audit contents start out found (Err failure) t tells h = (t.text, subst (IsTextIn first) (append-nil t.text) t.is_text, told t.text found failure.error (tells t.text t.written.taken) h)
 
--- ---- the output before the fault of the text was found
+-- ---- the output before the error in the text was found
 
--- what a fault says about a text
+-- what an error says about a text
 SaysOfText : List ℕ → TextFault → Type 0
 SaysOfText text (found.Read what) = Reads text (Err what)
 SaysOfText text (found.Wrong w) = Unit {0}
@@ -273,7 +274,7 @@ left asked ifaces first audit torn contents start out new (Ok count) (Err failur
 left asked ifaces first audit torn contents start out new (Err what) (Err failure) kind unended t says wrong fits tells quiet =
     all_left asked ifaces first audit torn contents start out new failure.error kind unended t (names_told what failure.error audit.phase (λ w is. wrong w (ap Err is)) tells) (says_so (t.text ++ torn) what failure.error (says what refl) tells) fits quiet
 
--- a call that failed because memory was refused, and that wrote nothing
+-- the output after a call that failed because memory was refused, and that wrote nothing
 pub memory_left : {W : Type 0} (asked : Option Wanted) (ifaces : Option ℕ) (first : Option (List ℕ)) (audit : TextAudit) (torn : List ℕ) (contents : W → Option (List ℕ)) (start out : W) (why : ProgramError) → has_events audit.events ≡ asks_events asked → EndsNoLine torn
     → IsReady (wanted_of asked) first audit torn contents start out → FitsBus ifaces (bus_taken audit.phase) → why ≡ fault.NoMemory → Leaves asked ifaces first why contents start out
 memory_left asked ifaces first audit torn contents start out why kind unended t fits is =
@@ -292,7 +293,7 @@ pub left_cut : {W : Type 0} (asked : Option Wanted) (ifaces : Option ℕ) (first
 left_cut asked ifaces first audit torn contents start out new what r kind unended t tells wrong fits told quiet =
     left asked ifaces first audit torn contents start out new what r kind unended t (λ f is. says_cut (t.text ++ torn) what (tells t.text t.written.taken unended) f is) wrong fits told quiet
 
--- the last line is at fault
+-- the last line is invalid
 pub last_told : {W : Type 0} (w : Wanted) (first : Option (List ℕ)) (torn : List ℕ) (audit : TextAudit) (contents : W → Option (List ℕ)) (start out : W) (why : ProgramError) → IsInputTaken w first audit torn contents start out → FaultsLast audit torn why
     → FaultsInput first why
 last_told w first torn audit contents start out why t h = (t.lines ++ torn, t.is_text, h t.lines t.written.taken)
@@ -329,7 +330,7 @@ pub files_written : {W : Type 0} (is_cut : Bool) (asked : Option Wanted) (ifaces
 files_written is_cut asked ifaces {by} first contents old new (Ok u) is h = (h.0, subst (λ (b : Bool). IsAuditedBy b asked ifaces h.0 (contents old) (contents new)) (sym is) h.2)
 files_written is_cut asked ifaces {by} first contents old new (Err why) is h = tt
 
--- nothing is known about the text that the files hold
+-- nothing is known about the text that the files contain
 front_of_some : {W : Type 0} (asked : Option Wanted) (ifaces : Option ℕ) (first : Option (List ℕ)) (why : ProgramError) (contents : W → Option (List ℕ)) (old new : W) → LeavesFront asked ifaces first why contents old new → LeavesFront asked ifaces None why contents old new
 front_of_some None ifaces first why contents old new h = h
 front_of_some (Some w) ifaces first why contents old new h = (h.0, tt, h.2)
@@ -355,7 +356,7 @@ of_file_unread path why h = absurd h
 pub files_unread : (paths : List (List ℕ)) (why : ProgramError) → IsOfFiles paths why → IsUnread why
 files_unread paths why h = of_file_unread h.0 why h.2
 
--- a property of a failure holds for the failure that is passed on
+-- a property of an error holds for the error that is passed on to the caller
 pub passed_on : {A : Type 0} (P : Report → Type 0) (failure : Report) (r : Result A Report) → IsErrAnd r (λ x. x ≡ failure) → P failure → IfErr r P
 passed_on P failure (Ok a) passed h = tt
 passed_on P failure (Err x) passed h = subst P (sym passed) h
@@ -377,13 +378,13 @@ pub of_memory : (named : List (Bor (List ℕ))) (i : ℕ) (why : ProgramError) �
 of_memory [] i why low is = absurd (omega arith)
 of_memory (path ∷ more) i why low is = (path.now, (0, omega arith, refl), subst (IsOfFile path.now) (sym is) tt)
 
--- ---- one of two faults
+-- ---- one of two kinds of error
 
--- the fault is of the writer, or it says this about the text
+-- it is an error in writing, or it says this about the text
 abbrev pub Either : Bool → (ProgramError → Type 0) → Report → Type 0
 Either has says failure = StopsEvents has failure.error ⊎ says failure.error
 
--- the bus does not have the wanted number of interfaces, or the fault says this about the text
+-- the bus does not have the wanted number of interfaces, or the error says this about the text
 abbrev pub Or : Option ℕ → Option (List ℕ) → (ProgramError → Type 0) → ProgramError → Type 0
 Or ifaces first says why = IsOfOtherBus ifaces first why ⊎ says why
 
@@ -409,7 +410,7 @@ line_or_cut has ifaces first failure (inl is) = inl is
 line_or_cut has ifaces first failure (inr (inl other)) = inr (inl other)
 line_or_cut has ifaces first failure (inr (inr h)) = inr (inr (cut_line_told first failure.error h))
 
--- more events were to be written, but the writer failed or the bus is not the wanted one
+-- more events had to be written, but writing failed or the bus is not the wanted one
 pub known_or : {W : Type 0} (has asks : Bool) (ifaces : Option ℕ) (first : Option (List ℕ)) (text torn : List ℕ) (p : Phase) (failure : Report) (out new : W) (says : ProgramError → Type 0) → has ≡ asks → IsTextIn first (text ++ torn) → HasCome text p
     → StopsEvents has failure.error ⊎ (IsOtherBus ifaces (bus_taken p) failure.error × (new ≡ out)) → Either asks (Or ifaces first says) failure
 known_or has asks ifaces first text torn p failure out new says same is come (inl h) = inl (subst (λ (b : Bool). StopsEvents b failure.error) same h)
@@ -424,7 +425,7 @@ pub memory_told_cut : (first : Option (List ℕ)) (why : ProgramError) → why �
 memory_told_cut None why is = ([], tt, inl (subst (FaultsWhole []) (sym is) tt))
 memory_told_cut (Some all) why is = (all, refl, inl (subst (FaultsWhole all) (sym is) tt))
 
--- the output after the last line was taken, if the writer failed or the bus is not the wanted one
+-- the output after the last line was taken, if writing failed or the bus is not the wanted one
 pub known_left_last : {W : Type 0} (asked : Option Wanted) (ifaces : Option ℕ) (first : Option (List ℕ)) (before after : TextAudit) (torn : List ℕ) (contents : W → Option (List ℕ)) (start out new : W) (why : ProgramError) → has_events before.events ≡ asks_events asked
     → IsInputTaken (wanted_of asked) first before torn contents start out → TakesLast before torn after → FitsBus ifaces (bus_taken before.phase) → StopsEvents (has_events after.events) why ⊎ (IsOtherBus ifaces (bus_taken after.phase) why × (new ≡ out))
     → Leaves asked ifaces first why contents start new
@@ -435,7 +436,7 @@ known_left_last asked ifaces first before after torn contents start out new why 
     inr (subst (LeavesFront asked ifaces first why contents start) (sym h.1) (subst (λ (o : Option Wanted). LeavesFront o ifaces first why contents start out) (sym (asked_so asked before.events kind))
     (none_left w ifaces first t.lines torn t.events before.events why contents start out (is_other ifaces (bus_taken after.phase) why h.0) nothing t.is_text t.put)))
 
--- the output if the last line is at fault, so that it has no events
+-- the output if the last line is invalid, so that it has no events
 pub last_left : {W : Type 0} (asked : Option Wanted) (ifaces : Option ℕ) (first : Option (List ℕ)) (audit : TextAudit) (torn : List ℕ) (contents : W → Option (List ℕ)) (start out : W) (why : ProgramError) → has_events audit.events ≡ asks_events asked
     → IsInputTaken (wanted_of asked) first audit torn contents start out → FitsBus ifaces (bus_taken audit.phase) → FaultsLast audit torn why → IsOfSomeLine why → Leaves asked ifaces first why contents start out
 unfolding ready
@@ -464,7 +465,7 @@ cut_files_told false has ifaces paths first r is h = absurd cc
 cut_files_told true has ifaces paths first r is h =
     or_more has (Or ifaces first (FaultsCut first)) (Or ifaces None (FaultsFiles true paths)) r (of_files ifaces true paths first (FaultsCut first) (λ why k. inr (k.0, k.2))) h
 
--- ---- the result of an audit of files, by the options
+-- ---- the result of an audit of files, according to the options
 
 kinds : (output : AuditOutput) (asked : Option Wanted) → IsAskedBy output asked → asks_events asked ≡ are_events output
 kinds writes.Count None by = refl

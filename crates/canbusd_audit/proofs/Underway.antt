@@ -1,4 +1,4 @@
--- The lines of a text, as they are read.
+-- The lines of a text while they are read.
 use Rattle.std.proofs.Common.{◌≡◌, ◌≢◌, ◌==◌, ◌+◌, ◌-◌, ℕ, suc, Bool, true, false, cond, IsTrue, All, List, [], ◌∷◌, ◌++◌, length, take, Option, Some, None, Err, inl, inr, append_assoc, eqb-true, get_or, length-append, refl, sym, ap, subst, ◌∙◌, arith}
 use Rattle.std.specs.Prelude.{IfSome, slice_get}
 use Rattle.std.specs.Io.{StopsAt, appended_bytes}
@@ -22,7 +22,7 @@ use Rattle.canbusd_io.specs.declared.program_error.ProgramError.TheVariants as f
 use Rattle.canbusd_io.specs.Files.{IsOfReading}
 use Rattle.canbusd_audit.specs.Audited.{Faults, FaultsLast, FaultsLine, FaultsWhole, IsAtFault, IsBefore, IsInputTaken, IsNextLine, IsOfLine, IsPut, IsRead, IsTextIn, IsUnderway, Puts, asks_events, output_of, wanted_of}
 
--- an audit has events only if it is asked for them
+-- an audit collects events only if they were requested
 pub asked_so : (asked : Option Wanted) (held : Option EventsText) → has_events held ≡ asks_events asked → asked ≡ output_of (wanted_of asked) held
 asked_so None None has = refl
 asked_so None (Some e) has = absurd cc
@@ -69,7 +69,7 @@ put_more w first now audit next contents start out new has written put p = recor
   put = subst (λ (b : Bool). Puts b contents start new (p.events ++ held_events audit.events)) (sym has) (puts_more (has_events audit.events) contents start out new p.events (held_events audit.events) p.put put);
 }
 
--- the audit went on to more lines, and no more events were written
+-- the audit took more lines, and no more events were written
 pub put_on : {W : Type 0} (w : Wanted) (first now after : Option (List ℕ)) (audit next : TextAudit) (contents : W → Option (List ℕ)) (start out : W) → has_events next.events ≡ has_events audit.events
     → ((events : List ℕ) → IsUnderway w first now audit events → IsUnderway w first after next events) → IsPut w first now audit contents start out → IsPut w first after next contents start out
 put_on w first now after audit next contents start out has goes p =
@@ -98,7 +98,7 @@ text_then None now text line h is = tt
 text_then (Some all) None text line h is = absurd h
 text_then (Some all) (Some rest) text line h is = sym (h ∙ ap (λ (x : List ℕ). text ++ x) (sym is))
 
--- the text has ended with bytes that end no line
+-- the text has ended with bytes that contain no LF
 pub ends_torn : {W : Type 0} (w : Wanted) (first now : Option (List ℕ)) (audit : TextAudit) (contents : W → Option (List ℕ)) (start out : W) (torn : List ℕ) → held_events audit.events ≡ [] → IsPut w first now audit contents start out → IsTextIn now torn
     → EndsNoLine torn → IsInputTaken w first audit torn contents start out
 ends_torn w first now audit contents start out torn none p is unended = record {
@@ -124,7 +124,7 @@ follows line after is end =
     let last : get_or line (length line - 1) 0 ≡ 10 = ap (λ (n : ℕ). get_or line n 0) (omega (arith, size)) ∙ ap (λ (l : List ℕ). get_or l (length end.0) 0) end.1 ∙ last_of end.0 in
     (through_part 10 line after is.stops (λ some. last) (λ none. absurd (omega (arith, none, size)))).0
 
--- the line is at fault after the lines that were taken
+-- the line after the lines that were taken is invalid
 pub line_fault : (text line rest : List ℕ) (audit : TextAudit) (why : ReadFault) → AreTaken text audit → IsLine line → EndsLine line
     → ((text rest : List ℕ) → AreTaken text audit → IsLine line → MayFollow line rest → Reads (text ++ (line ++ rest)) (Err why)) → FaultsUncut (text ++ (line ++ rest)) why
 line_fault text line rest audit why taken is end step =
@@ -150,18 +150,18 @@ reading_whole text fault.Read h = tt
 reading_whole text fault.NoMemory h = tt
 reading_whole text why h = absurd h
 
--- the reader failed, or memory was refused
+-- reading failed, or memory was refused
 pub stops : (first : Option (List ℕ)) (why : ProgramError) → IsOfReading why → FaultsLine first why
 stops None why h = ([], tt, reading_whole [] why h)
 stops (Some all) why h = (all, refl, reading_whole all why h)
 
--- a line is at fault, or the reader failed after it
+-- a line is invalid, or reading failed after it
 pub fails_so : (w : Wanted) (first now after : Option (List ℕ)) (line events : List ℕ) (audit : TextAudit) (what : ReadFault) (why : ProgramError) → IsOfLine what why → IsUnderway w first now audit events → IsRead now after line
     → ((text rest : List ℕ) → AreTaken text audit → IsLine line → MayFollow line rest → Reads (text ++ (line ++ rest)) (Err what)) → FaultsLine first why
 fails_so w first now after line events audit what why (inl is) u read step = subst (FaultsLine first) (sym is) (fails w first now after line events audit what u read step)
 fails_so w first now after line events audit what why (inr h) u read step = stops first why h
 
--- a line that the reader still has buffered is at fault, or the reader failed
+-- a line in the reader's buffer is invalid, or reading failed
 pub fails_held : (w : Wanted) (first now : Option (List ℕ)) (audit : TextAudit) (events : List ℕ) (what : ReadFault) (why : ProgramError) → IsOfLine what why → IsUnderway w first now audit events → IsAtFault now audit what → FaultsLine first why
 fails_held w first now audit events what why (inl is) u fault = subst (FaultsLine first) (sym is) (fault w first events u)
 fails_held w first now audit events what why (inr h) u fault = stops first why h
@@ -173,7 +173,7 @@ through None new line h k = tt
 through (Some xs) None line h k = tt
 through (Some xs) (Some ys) line h k = ap (take_through 10) (sym k) ∙ sym h
 
--- if the last byte is not LF, the bytes end no line
+-- if the last byte is not LF, the bytes do not end with a complete line
 unended : (xs : List ℕ) → StopsAt xs 10 → slice_get xs (length xs - 1) ≢ Some 10 → EndsNoLine xs
 unended [] stops_at last = All-nil (λ b. b ≢ 10)
 unended (x ∷ []) stops_at last = All-cons (λ b. b ≢ 10) x [] (λ is. last (ap Some is)) (All-nil (λ b. b ≢ 10))
@@ -196,7 +196,7 @@ rest_is : (old : Option (List ℕ)) (line : List ℕ) → EndsNoLine line → If
 rest_is None line h is = tt
 rest_is (Some xs) line h is = is ∙ whole_through xs (subst EndsNoLine is h)
 
--- if the last byte is LF, the bytes end a line
+-- if the last byte is LF, the bytes end with a complete line
 last_ends : (xs : List ℕ) → slice_get xs (length xs - 1) ≡ Some 10 → EndsLine xs
 last_ends [] last = absurd cc
 last_ends (x ∷ []) last =
@@ -226,7 +226,7 @@ next_is false old new [] line empty stops_at through_lf consumed last torn =
     (rest_is old line ends_no through_lf, ends_no)
 next_is b old new (x ∷ xs) line empty stops_at through_lf consumed last torn = absurd cc
 
--- ---- bytes after the last line
+-- ---- the bytes after the last LF
 
 pub some_of : (torn : List ℕ) → false ≡ (length torn == 0) → torn ≢ []
 some_of [] is none = absurd cc

@@ -14,9 +14,9 @@ use std::alloc::{AllocError, Global};
 use std::io::{BufRead, BufReader, Write};
 use std::rt::Files;
 
-/// Audits a record whose text is in the files of the options, one after another. If the record is a legal history, writes the
-/// number of its entries. With `--events`, writes the events of the entries instead, up to the first entry that is not legal. The
-/// faults of the run are read first, if they are given.
+/// Audits a record whose text is in the files that the options name, one after another. If the record is a legal history, writes
+/// the number of its entries. With `--events`, writes the events of the entries instead, up to the first entry that is not legal.
+/// The faults of the run are read first, if the options name them.
 pub fn audit_files<'a, H: Files, W: Write, E: Write>(
     rt: &H,
     alloc: Global,
@@ -38,8 +38,8 @@ pub fn audit_files<'a, H: Files, W: Write, E: Write>(
     audit_asked(rt, alloc, options, asked, ifaces, output, errors)
 }
 
-// Returns what the options ask for about events, with the faults of the run, and the number of interfaces that the faults have
-// names for.
+// Returns the parts of the events that the options request, with the faults of the run, and the number of interfaces for which the
+// faults have names. Either value is `None` if the options do not request it.
 fn read_asked<'a, H: Files>(
     rt: &H,
     alloc: Global,
@@ -96,7 +96,7 @@ fn audit_asked<'a, H: Files, W: Write, E: Write>(
     }
 }
 
-// Returns an audit that has taken no lines. It collects events if the options ask for them.
+// Returns an audit that has taken no lines. It collects events if the options request them.
 fn new_audit<'a>(alloc: Global, asked: Option<Wanted>) -> Result<TextAudit, Report<'a>>
     ensures written { IfOk result (λ audit. HasWritten (wanted_of asked) [] [] audit) }
     ensures none { IfOk result (λ audit. held_events audit.events ≡ []) }
@@ -112,7 +112,7 @@ fn new_audit<'a>(alloc: Global, asked: Option<Wanted>) -> Result<TextAudit, Repo
     }
 }
 
-// Returns the lines about the rules that the bus gets, and about each removal of all rules, after the last entry.
+// Returns the lines for the rules that the bus accepts after the last entry, and for each removal of all rules.
 fn last_rules<'a>(alloc: Global, audit: &mut TextAudit) -> Result<Vec<u8>, Report<'a>>
     ensures lines { IfOk result (λ lines. lines.items ≡ rules_last audit.old.events) }
     ensures phase { audit.new.phase ≡ audit.old.phase }
@@ -124,7 +124,7 @@ fn last_rules<'a>(alloc: Global, audit: &mut TextAudit) -> Result<Vec<u8>, Repor
     }
 }
 
-// Returns whether the options ask for events.
+// Returns whether the options request events.
 fn is_with_events(asked: &Option<Wanted>) -> bool
     ensures { result ≡ asks_events asked.now }
 {
@@ -149,7 +149,7 @@ fn open_files<'a, H: Files>(
     Ok(files)
 }
 
-// Returns the name that notes use for the joined text of these files.
+// Returns the name for the joined text of these files, which is used in notes.
 fn joined_name(alloc: Global, paths: &[&str]) -> Result<String, AllocError> {
     let mut name = String::new(alloc);
     for (place, path) in paths.iter().enumerate() {
@@ -161,12 +161,10 @@ fn joined_name(alloc: Global, paths: &[&str]) -> Result<String, AllocError> {
     Ok(name)
 }
 
-/// Audits a record. Its text comes from the file with this path. If the record is a legal history, writes the number of its
+/// Audits a record. Its text is read from the file with this path. If the record is a legal history, writes the number of its
 /// entries. With events, writes the events of the entries instead, up to the first entry that is not legal. If `ifaces` is given,
-/// the bus must have this many interfaces.
-///
-/// The text is read once and line by line, so it may come through a pipe. Neither the text nor the record is kept in memory, and
-/// only the events of the lines from one read are.
+/// the bus must have this many interfaces. The text is read once and line by line, so it may be read from a pipe. Neither the text
+/// nor the record is kept in memory. Only the events of the lines from one read are kept.
 pub fn audit_lines<'a, R: BufRead, W: Write>(
     alloc: Global,
     path: &str,
@@ -204,8 +202,8 @@ pub fn audit_lines<'a, R: BufRead, W: Write>(
     )
 }
 
-/// Audits a record whose text may be cut off, as a killed run leaves it. If the record is legal as far as it goes, writes the
-/// number of its entries and that it is cut off. It is otherwise like `audit_lines`.
+/// Audits a record whose text may be cut off, for example because the run was killed. If the record is legal as far as it goes,
+/// writes the number of its entries and that it is cut off. Otherwise it does the same as `audit_lines`.
 pub fn audit_cut_lines<'a, R: BufRead, W: Write, E: Write>(
     alloc: Global,
     path: &str,

@@ -21,8 +21,8 @@ pub enum Buffered {
     Wrong(ReadFault),
 }
 
-/// Takes the complete lines that an input holds and counts them. It stops after the line that makes the record's bus known. If the
-/// input holds nothing, it reads once.
+/// Takes the complete lines in the buffer of an input and counts them. It stops after the line that describes the record's bus. If
+/// the buffer is empty, it reads once.
 pub fn take_held<R: BufRead>(
     alloc: Global,
     input: &mut R,
@@ -49,7 +49,7 @@ pub fn take_held<R: BufRead>(
     }
 }
 
-// Returns the result of a read that failed.
+// Returns the result for a read that failed.
 fn unfilled(error: Error) -> io::Result<Buffered>
     ensures { IfOk result (λ held. held ≡ Buffered.Lines) }
 {
@@ -60,7 +60,7 @@ fn unfilled(error: Error) -> io::Result<Buffered>
     }
 }
 
-// Takes the complete lines at the start of these bytes and counts them. It stops after the line that makes the record's bus known.
+// Takes the complete lines at the start of these bytes and counts them. It stops after the line that describes the record's bus.
 // Returns the number of bytes taken, and the fault of the next line if that line is wrong.
 fn carry_held(
     alloc: Global,
@@ -92,7 +92,7 @@ fn carry_held(
     (len, None)
 }
 
-// Returns whether an audit has just learned the bus of its record.
+// Returns whether an audit has just taken the line that describes its record's bus.
 fn learned_bus(was_known: bool, audit: &TextAudit) -> bool
     ensures { was_known ≡ false → result ≡ is_some (bus_taken audit.now.phase) }
 {

@@ -56,8 +56,8 @@ fn write_count<'a, W: Write>(
     written.map_err(|error| write_failure(alloc, OUTPUT, &error))
 }
 
-/// Reports the result of an audit of a text that may be cut off. `torn` are the bytes after the last LF. It is otherwise like
-/// `tell_end`.
+/// Reports the result of an audit of a text that may be cut off. `torn` contains the bytes after the last LF. Otherwise it does the
+/// same as `tell_end`.
 pub fn tell_cut<'a, W: Write, E: Write>(
     alloc: Global,
     path: &str,
@@ -145,7 +145,7 @@ fn write_cut<W: Write>(
     }
 }
 
-// Returns the report of a text that is not the text of a record. `torn` are the bytes after the last LF.
+// Returns the report for a text that is not the text of a record. `torn` contains the bytes after the last LF.
 fn text_failure<'a>(
     alloc: Global,
     path: &str,
@@ -159,7 +159,7 @@ fn text_failure<'a>(
     Report::with(alloc, ProgramError::Record(fault), note)
 }
 
-// Returns the report of a record with a wrong entry.
+// Returns the report for a record with a wrong entry.
 fn wrong_failure<'a>(alloc: Global, path: &str, wrong: &WrongLine) -> Report<'a>
     requires { FitsLines wrong.now }
     ensures { result.error ≡ told.WrongEntry wrong.now.place }
@@ -168,8 +168,8 @@ fn wrong_failure<'a>(alloc: Global, path: &str, wrong: &WrongLine) -> Report<'a>
     Report::with(alloc, ProgramError::WrongEntry(wrong.place), note)
 }
 
-// Returns the line to show with a fault of the whole text. It is usually `torn`, the bytes after the last LF, which are empty if a
-// line is missing. If the version is wrong but each line is right, it is the first line.
+// Returns the line to show with a fault of the whole text. It is usually `torn`, the bytes after the last LF, which is empty if a
+// line is missing. If the version is wrong but every line is valid, it is the first line.
 fn last_shown<'a>(first: &'a [u8], torn: &'a [u8], fault: ReadFault) -> &'a [u8] {
     match fault {
         ReadFault::BadVersion if !first.is_empty() => first,

@@ -3,7 +3,7 @@
 use std::io;
 use std::io::Read;
 
-/// A reader of the bytes of several readers, one after another.
+/// A reader that returns the bytes of several readers, one after another.
 #[derive(Drop)]
 pub struct Joined<R> {
     parts: Vec<R>,
@@ -12,7 +12,7 @@ pub struct Joined<R> {
 }
 
 impl<R> Joined<R> {
-    /// Returns the joined readers before the first read.
+    /// Returns the joined readers. Nothing has been read from them yet.
     pub fn new(parts: Vec<R>) -> Joined<R> {
         Joined { parts, place: 0 }
     }

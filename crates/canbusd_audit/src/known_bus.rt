@@ -1,4 +1,4 @@
-//! Checks whether a record is from a bus with as many interfaces as the faults of the run have names for.
+//! Checks whether a record's bus has as many interfaces as there are names in the faults of the run.
 ghost use Rattle.std.specs.Prelude.{◌≡◌, ◌++◌, ◌⊎◌, [], IfErr, List, OnOk, ℕ};
 ghost use Rattle.can_replay.specs.declared.wanted.Wanted.{Wanted as AWanted};
 ghost use Rattle.can_replay.specs.EventTexts.{HasWritten, has_events, held_events};
@@ -62,7 +62,7 @@ fn check_bus<'a>(
     Err(Report::with(alloc, ProgramError::OtherBus, note))
 }
 
-// Returns a note with the number of names and the number of interfaces.
+// Returns a note that compares the number of names with the number of interfaces.
 fn other_note(alloc: Global, path: &str, named: u8, ifaces: u8) -> Result<String, AllocError> {
     format!(in alloc; "  names in --faults: {named}, interfaces of {path}: {ifaces}\n")
 }

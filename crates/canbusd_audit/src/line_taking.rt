@@ -16,12 +16,10 @@ use std::alloc::Global;
 use std::io::{BufRead, Write};
 use std::str;
 
-/// Takes the lines of an input up to its end and returns their number. The bytes after the last LF remain in `torn`. If the audit
-/// collects events, they are written after each read. If `ifaces` is given, the bus of the record must have this many interfaces;
-/// if it does not, nothing is written.
-///
-/// If a line is wrong, the lines after it are still read, because an input that is not UTF-8 text is reported as such, wherever the
-/// bad bytes are.
+/// Takes the lines of an input up to its end and returns how many there are. The bytes after the last LF remain in `torn`. If the
+/// audit collects events, they are written after each read. If `ifaces` is given, the bus of the record must have this many
+/// interfaces; otherwise nothing is written. If a line is wrong, the lines after it are still read, because input that is not UTF-8
+/// text is reported as such, wherever the invalid bytes are.
 pub fn take_lines<'a, R: BufRead, W: Write>(
     alloc: Global,
     path: &str,
@@ -108,7 +106,7 @@ pub fn take_last<'a>(
     }
 }
 
-// Returns the report of a wrong last line.
+// Returns the report for a wrong last line.
 fn torn_failure<'a>(
     alloc: Global,
     path: &str,
@@ -126,7 +124,7 @@ fn torn_failure<'a>(
     Report::with(alloc, ProgramError::Record(fault), note)
 }
 
-// Returns the report of a wrong line that is still in the input. `lines` is the number of lines before it.
+// Returns the report for a wrong line that is still in the input. `lines` is the number of lines before it.
 #[inline(never)]
 fn held_failure<'a, R: BufRead>(
     alloc: Global,
@@ -144,7 +142,7 @@ fn held_failure<'a, R: BufRead>(
     }
 }
 
-// Returns the report of a wrong line.
+// Returns the report for a wrong line.
 fn line_failure<'a, R: BufRead>(
     alloc: Global,
     path: &str,
@@ -162,7 +160,7 @@ fn line_failure<'a, R: BufRead>(
     }
 }
 
-// Reads the input after a wrong line. Checks that this line and all later lines are UTF-8 text.
+// Reads the rest of the input after a wrong line. Checks that this line and all later lines are UTF-8 text.
 fn read_rest<'a, R: BufRead>(
     alloc: Global,
     path: &str,
@@ -184,7 +182,7 @@ fn read_rest<'a, R: BufRead>(
     Err(Report::new(alloc, ProgramError::Read))
 }
 
-// Reads the next line with its LF. Returns false if the rest of the input has no LF; the rest was then read.
+// Reads the next line with its LF. Returns false if the rest of the input contains no LF; the rest was then read.
 fn next_line<'a, R: BufRead>(
     alloc: Global,
     path: &str,

@@ -36,7 +36,7 @@ pub fn record_note(
     format!(in alloc; "  {line}\n  {form}\n")
 }
 
-// Returns the form of a line after the second line. If the text ended there, the line is missing or has no LF.
+// Returns the form of a line after the second line, or what is wrong if the text ended there: the line is missing or has no LF.
 fn entry_form(line: &[u8]) -> &'static str {
     if line.is_empty() {
         "the text ends here, before its line end COUNT"
@@ -47,8 +47,8 @@ fn entry_form(line: &[u8]) -> &'static str {
     }
 }
 
-/// Adds a note to the report of a text that ends before its end line. The note says that `--cut` audits the entries, if the text
-/// has the two lines before its entries.
+/// Adds a note to the report for a text that ends before its end line. The note says that `--cut` audits the entries. It is added
+/// only if the text has the two lines before its entries.
 pub fn with_cut_note<'a>(alloc: Global, failure: Report<'a>, fault: ReadFault) -> Report<'a>
     ensures { result.error ≡ failure.entry.error }
 {
@@ -61,7 +61,7 @@ pub fn with_cut_note<'a>(alloc: Global, failure: Report<'a>, fault: ReadFault) -
     }
 }
 
-// Returns the note that `--cut` audits the entries of the text, with their number.
+// Returns the note that `--cut` audits the entries of the text. It says how many entries there are.
 fn cut_note(alloc: Global, entries: u64) -> Result<String, AllocError> {
     format!(in alloc; "  with --cut the {entries} entries before it are audited\n")
 }

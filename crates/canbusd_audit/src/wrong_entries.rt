@@ -8,7 +8,7 @@ use can_replay::WrongLine;
 use canbusd_io::{Shown, SourceLine};
 use std::alloc::{AllocError, Global};
 
-/// Returns a note with the line of a wrong entry and the line that would be legal in its place.
+/// Returns a note with the line of a wrong entry and the line that would be legal instead.
 pub fn wrong_note(alloc: Global, path: &str, wrong: &WrongLine) -> Result<String, AllocError>
     requires { FitsLines wrong.now }
 {

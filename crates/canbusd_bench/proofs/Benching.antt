@@ -23,9 +23,9 @@ use Rattle.canbusd_bench.specs.Refusals.{GrowsByRefusal, GrowsQuietly}
 use Rattle.canbusd_bench.specs.inner.Watched.{told}
 use Rattle.canbusd_bench.proofs.Watching.{Watching, loudly, nothing, quiet_if, seen_whole, unknown_refusal, wrote}
 
--- A run of the bench with the configuration of the options.
+-- A run of the bench with the configuration that the options define.
 
--- the reply of a bench of this configuration
+-- the result of a bench with this configuration
 pub record Answered {W : Type 0} (contents : W → Option (List ℕ)) (shows : Bool) (timing : Option BusTiming) (c : BusConfig) (capacity : ℕ) (names : List (List ℕ)) (plan : PlanSeen) (input : Option (List ℕ)) (out : W) (r : Result Kept BenchFault) (new : W) : Type 0 where
   pub bad : (r ≡ Err BadConfig) ↔ (IsBench names c capacity → ⊥)
   pub untouched : r ≡ Err BadConfig → new ≡ out
@@ -47,7 +47,7 @@ stops contents o names plan input out new Read a = a.runs (search rules)
 stops contents o names plan input out new Write a = a.runs (search rules)
 stops contents o names plan input out new NoMemory a = a.runs (search rules)
 
--- a run that ended with a fault
+-- a run that ended with an error
 pub stopped : {W : Type 0} (contents : W → Option (List ℕ)) (c : BusConfig) (o : BenchOptions) (names : List (List ℕ)) (plan : PlanSeen) (input : Option (List ℕ)) (out new : W) (why : BenchFault) (f : ProgramError)
     → c ≡ config_of o.settings (length names) → f ≡ fault.Bench why → Answered contents o.shows_faults o.timing c o.settings.rx_capacity names plan input out (Err why) new
     → StopsBy contents o names plan input out f new
@@ -63,7 +63,7 @@ pub ran : {W : Type 0} (E : Type 0) (contents : W → Option (List ℕ)) (o : Be
 ran E contents o names plan input out new (Ok k) scripted ends config proper legal = record { plan = plan; scripted = scripted; ends = ends; config = config; proper = proper; legal = legal }
 ran E contents o names plan input out new (Err why) scripted ends config proper legal = tt
 
--- the writer that took a watcher's bytes, if they are known, is the one that was flushed
+-- the writer that accepted a watcher's bytes, if they are known, is the one that was flushed
 pub record Taken {W : Type 0} (contents : W → Option (List ℕ)) (old behind new : W) (text : List ℕ) : Type 0 where
   pub written : W
   pub took : Appends (contents old) (contents written) text
@@ -88,7 +88,7 @@ abbrev text_in : {V : Type 0} (outer : V → Option (List ℕ)) (verdicts : Verd
     → EndsOver outer verdicts input b v (Ok r) w → (text : List ℕ) × Appends (outer v) (outer w) text
 text_in outer verdicts input b v w r (now, (lines, after, all, over, none, out, leaves)) = (out.text, out.wrote)
 
--- the same run over another writer that takes the same text
+-- the same run with another writer that accepts the same text
 moved : {V W : Type 0} (outer : V → Option (List ℕ)) (contents : W → Option (List ℕ)) (verdicts : VerdictMap) (input : Option (List ℕ)) (b : BenchState) (v w : V) (old new : W) (r : Kept)
     (e : EndsOver outer verdicts input b v (Ok r) w) → Appends (contents old) (contents new) (text_in outer verdicts input b v w r e).0 → EndsOver contents verdicts input b old (Ok r) new
 moved outer contents verdicts input b v w old new r (now, (lines, after, all, over, none, out, leaves)) a =
@@ -105,7 +105,7 @@ unless_known : {W : Type 0} (contents : W → Option (List ℕ)) (P : Option (Li
 unless_known contents P old behind written (inl unknown) first second = first unknown
 unless_known contents P old behind written (inr is) first second = subst (λ w. P (contents old) (contents w)) (sym is) second
 
--- a run whose watcher saw no refusal
+-- a run in which the watcher saw no refusal
 pub benched : {V W : Type 0} (outer : V → Option (List ℕ)) (contents : W → Option (List ℕ)) (o : BenchOptions) (input : Option (List ℕ)) (v w : V) (old behind flushed new : W) (r : Kept)
     → AreNames (names_in o.bus.names.now) → (seen : Watching contents (outer v) (outer w) o.is_strict old behind flushed new) → (seen.on ≡ false) ⊎ (seen.seen ≢ 9)
     → IsRunAsAsked outer o (names_in o.bus.names.now) input v r w → IsBenched contents o input old new
@@ -124,7 +124,7 @@ benched outer contents o input v w old behind flushed new r named seen none run 
           (quiet_if seen.name seen.is o.is_strict seen.on seen.written seen.seen (contents old) (contents behind) text.0 whole none e);
     }
 
--- a run whose watcher saw a refusal
+-- a run in which the watcher saw a refusal
 pub refused : {V W : Type 0} (outer : V → Option (List ℕ)) (contents : W → Option (List ℕ)) (o : BenchOptions) (input : Option (List ℕ)) (v w : V) (old behind flushed new : W) (r : Kept)
     → AreNames (names_in o.bus.names.now) → (seen : Watching contents (outer v) (outer w) o.is_strict old behind flushed new) → (seen.on ≡ true) × (seen.seen ≡ 9)
     → IsRunAsAsked outer o (names_in o.bus.names.now) input v r w → MeetsRefusal contents o input old new
@@ -143,7 +143,7 @@ refused outer contents o input v w old behind flushed new r named seen some run 
           (loudly seen.name seen.is o.is_strict seen.written seen.seen (contents old) (contents behind) text.0 (subst (λ b. Appends (told seen.name o.is_strict 0 0 (contents old)) (told seen.is b seen.written seen.seen (contents behind)) text.0) some.0 whole) some.1);
     }
 
--- a run with a watcher that ended with a fault
+-- a run with a watcher that ended with an error
 pub record Stopped {W : Type 0} (P : W → Type 0) (contents : W → Option (List ℕ)) (new : W) : Type 0 where
   pub written : W
   pub stops : P written
@@ -190,7 +190,7 @@ fails_so outer contents o names plan input v w old behind flushed new (fault.Ben
 fails_so outer contents o names plan input v w old behind flushed new (fault.Bench Write) seen same ends = stopped_over outer contents no_verdicts input (begun plan o names) v w o.is_strict old behind flushed new Write seen ends
 fails_so outer contents o names plan input v w old behind flushed new _ seen same stops = absurd stops
 
--- a run with a watcher that failed
+-- a run with a watcher whose writer failed
 pub failed : {V W : Type 0} (outer : V → Option (List ℕ)) (contents : W → Option (List ℕ)) (o : BenchOptions) (input : Option (List ℕ)) (v w : V) (old behind flushed new : W) (why : ProgramError)
     → AreNames (names_in o.bus.names.now) → (seen : Watching contents (outer v) (outer w) o.is_strict old behind flushed new) → (w ≡ v → (seen.is ≡ seen.name) × (behind ≡ old))
     → FailsBy outer o (names_in o.bus.names.now) input v why w → IsStopped contents o input old why new
@@ -200,7 +200,7 @@ failed outer contents o input v w old behind flushed new why named seen same (in
     let s = fails_so outer contents o (names_in o.bus.names.now) plan input v w old behind flushed new why seen same stops in
     inr (inr (named, s.written, inr (plan, scripted, s.stops), s.kept))
 
--- a complete run, with or without a refusal that was seen
+-- a complete run, whether the watcher saw a refusal or not
 pub by_refusal : {A : Type 0} (r : Option A) (N P S R : Type 0) (Q : A → Type 0) → IfNone r N → IfSome r Q → (IsSome r → S) → (N → P) → (S → R) → MatchOption r P (λ a. Q a × R)
 by_refusal None N P S R Q none some seen f g = f none
 by_refusal (Some a) N P S R Q none some seen f g = (some, g (seen (search rules)))
@@ -214,7 +214,7 @@ pub if_err : {A E : Type 0} (r : Result A E) (P Q : E → Type 0) → IfErr r P 
 if_err (Ok a) P Q p f = tt
 if_err (Err e) P Q p f = f e p
 
--- a property of an error holds for the error that is passed on
+-- a property of an error holds for the error that is passed on to the caller
 pub passed_on : {T F : Type 0} (P : F → Type 0) (e : F) (r : Result T F) → IsErrAnd r (λ x. x ≡ e) → P e → IfErr r P
 passed_on P e (Ok t) same holds = tt
 passed_on P e (Err x) same holds = subst P (sym same) holds

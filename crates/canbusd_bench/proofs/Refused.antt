@@ -3,12 +3,12 @@ use Rattle.std.proofs.lemmas.List.{take_more}
 use Rattle.canbusd_bench.specs.Refusals.{HasRefusal}
 use Rattle.canbusd_bench.specs.inner.Watched.{seen_after, seen_in}
 
--- The text has the refusal that a watcher saw.
+-- The text contains the refusal that a watcher saw.
 
 abbrev front : List ℕ
 front = codes "< error "
 
--- the number is 9 after a refusal; otherwise it is the number of last bytes that begin a refusal
+-- `seen` is 9 after a refusal; otherwise it is how many of the last bytes may begin a refusal
 abbrev Saw : ℕ → List ℕ → Type 0
 Saw seen text = ((seen ≡ 9) × HasRefusal text) ⊎ ((seen ≤ 8) × (before : List ℕ) × (text ≡ before ++ take seen front))
 
@@ -77,7 +77,7 @@ all_more : (rest : List ℕ) (seen : ℕ) (text : List ℕ) → Saw seen text �
 all_more [] seen text saw = subst (Saw seen) (sym (append-nil text)) saw
 all_more (b ∷ rest) seen text saw = subst (Saw (fold seen_after (seen_after seen b) rest)) (append_assoc text (b ∷ []) rest) (all_more rest (seen_after seen b) (text ++ b ∷ []) (more seen text b saw))
 
--- if a refusal was seen, the text has one
+-- if a refusal was seen, the text contains one
 pub is_refusal : (text : List ℕ) → seen_in 0 text ≡ 9 → HasRefusal text
 is_refusal text e = elim (all_more text 0 [] (inr (omega arith, [], refl))) [
   | inl has ↦ has.1

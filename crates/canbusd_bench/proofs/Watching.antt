@@ -7,14 +7,14 @@ use Rattle.canbusd_bench.specs.Refusals.{GrowsByRefusal, GrowsQuietly, HasRefusa
 use Rattle.canbusd_bench.specs.inner.Watched.{saw, seen_after, seen_in, told}
 use Rattle.canbusd_bench.proofs.Refused.{is_refusal}
 
--- The bytes of a watcher's writer, as the watcher knows them.
+-- The bytes in a watcher's writer, as far as the watcher knows them.
 
 -- both values are true
 both : (a b : Bool) → (a && b) ≡ true → (a ≡ true) × (b ≡ true)
 both true b e = (refl, e)
 both false b e = absurd (true≢false (sym e))
 
--- the watcher saw one more piece
+-- the watcher saw one more piece of the output
 saw_more : (written seen : ℕ) (text piece : List ℕ) → saw written seen text ≡ true
     → (length (text ++ piece) - (written + length piece) ≡ length text - written) × (saw (written + length piece) (seen_in seen piece) (text ++ piece) ≡ true)
 saw_more written seen text piece was =
@@ -59,7 +59,7 @@ unlooked name written seen w s None new piece a = tt
 unlooked name written seen w s (Some text) None piece a = absurd a
 unlooked name written seen w s (Some text) (Some after) piece a = ap (λ l. name ∷ 0 ∷ l) a
 
--- the known bytes after one more piece, if the watcher looks only while it is on
+-- the known bytes after one more piece, which the watcher examines only while it is on
 pub looked : (name is : ℕ) (is_on on : Bool) (written seen w s : ℕ) (old new : Option (List ℕ)) (piece : List ℕ) → is ≡ name → on ≡ is_on
     → (is_on ≡ true → w ≡ written + length piece) → (is_on ≡ true → s ≡ seen_in seen piece) → Appends old new piece
     → Appends (told name is_on written seen old) (told is on w s new) piece
@@ -72,7 +72,7 @@ looked name is false on written seen w s old new piece named same ws ss a =
     subst (λ n. Appends (told name false written seen old) (told n on w s new) piece) (sym named)
     (subst (λ b. Appends (told name false written seen old) (told name b w s new) piece) (sym same) (unlooked name written seen w s old new piece a))
 
--- a watcher has seen nothing at its start
+-- a watcher has seen nothing when it starts
 started : (text : List ℕ) → saw 0 0 text ≡ true
 started text = ap₂ (λ a b. a && b) (le-leb 0 (length text) (omega arith)) (eq-eqb _ _ (ap (seen_in 0) (drop_of_length-le text {i = length text - 0} (omega arith))))
 
@@ -87,7 +87,7 @@ at_start name true text = told_on name 0 0 text (started text)
 parts : (a b c d : ℕ) (x y : List ℕ) → a ∷ b ∷ x ≡ c ∷ d ∷ y → (a ≡ c) × (b ≡ d) × (x ≡ y)
 parts a b c d x y e = (search (rules, e), search (rules, e), search (rules, e))
 
--- the known bytes, and the bytes of the writer
+-- the known bytes, compared with the bytes of the writer
 told_as : (name is : ℕ) (is_on : Bool) (written seen mark : ℕ) (text after : List ℕ) (piece : List ℕ) → Appends (Some (name ∷ mark ∷ text)) (told is is_on written seen (Some after)) piece
     → (is ≡ name) × (mark_of is_on (length after - written) ≡ mark) × (after ≡ text ++ piece) × ((is_on ≡ true) → saw written seen after ≡ true)
 told_as name is false written seen mark text after piece a = let t = parts _ _ _ _ _ _ a in (t.0, t.1, t.2, λ e. absurd (true≢false (sym e)))
@@ -96,7 +96,7 @@ told_as name is true written seen mark text after piece a = elim (decide (saw wr
   | inr not ↦ absurd (subst (λ o. Appends (Some (name ∷ mark ∷ text)) o piece) (told_off is written seen after not) a)
 ]
 
--- if the writer's bytes are known, it is the same writer, and its bytes grew by the text that the watcher knows
+-- if the writer's bytes are known, the writer is the same, and its bytes grew by the text that the watcher knows
 pub wrote : (name is : ℕ) (is_on on : Bool) (w s : ℕ) (old new : Option (List ℕ)) (text : List ℕ) → Appends (told name is_on 0 0 old) (told is on w s new) text → (old ≡ None) ⊎ ((is ≡ name) × Appends old new text)
 wrote name is is_on on w s None new text a = inl refl
 wrote name is is_on on w s (Some bytes) None text a = absurd (subst (λ o. Appends o None text) (at_start name is_on bytes) a)
@@ -153,11 +153,11 @@ loudly name is strict w s (Some bytes) None text a e = subst (λ o. Appends o No
 loudly name is true w s (Some bytes) (Some after) text a e = let t = saw_all name is w s bytes after text a in (refl, text, t.0, is_refusal text (t.1 ∙ e))
 loudly name is false w s (Some bytes) (Some after) text a e = let t = told_as name is true w s 0 bytes after text a in absurd (search (rules, t.1))
 
--- the known bytes of a watcher at its start
+-- the known bytes of a watcher when it starts
 pub first_told : (name w s : ℕ) (on strict : Bool) (now old : Option (List ℕ)) → on ≡ strict → w ≡ 0 → s ≡ 0 → now ≡ old → told name on w s now ≡ told name strict 0 0 old
 first_told name w s on strict now old a b c d = rw (a, b, c, d) refl
 
--- the watcher before and after a run; and its writer before the run, after it, after a flush, and after the borrow ends
+-- the watcher before and after a run, and its writer before the run, after it, after a flush, and after the borrow ends
 pub record Watching {W : Type 0} (contents : W → Option (List ℕ)) (before after : Option (List ℕ)) (strict : Bool) (old behind flushed new : W) : Type 0 where
   pub name : ℕ
   pub is : ℕ

@@ -19,12 +19,12 @@ use Rattle.canbusd_io.specs.declared.program_error.ProgramError.TheVariants as f
 
 -- The run of a bench with these options (own choice).
 
--- the bench of these options, with these faults and names, before its first line
+-- the bench with these options, faults and names, before its first line
 abbrev pub begun : PlanSeen → BenchOptions → List (List ℕ) → BenchState
 begun plan o names =
     at_start_with o.shows_faults plan o.timing names (config_of o.settings (length names)) o.settings.rx_capacity
 
--- a run of these options ends with this fault; if a number is outside its limits, nothing was read or written
+-- a run with these options ends with this error; if a number is outside its limits, nothing was read or written
 abbrev pub StopsBy : {W : Type 0} → (W → Option (List ℕ)) → BenchOptions → List (List ℕ) → PlanSeen
     → Option (List ℕ) → W → ProgramError → W → Type 0
 StopsBy contents o names plan input out (fault.Bench BadConfig) new =
@@ -33,16 +33,16 @@ StopsBy contents o names plan input out (fault.Bench why) new =
     EndsOver contents no_verdicts input (begun plan o names) out (Err why) new
 StopsBy contents o names plan input out _ new = ⊥
 
--- a run of these options ends with a fault of its script before anything was written; or the script is valid, and the
--- run itself ends with a fault
+-- a run with these options ends with an error in its script before anything was written; or the script is valid, and
+-- the run itself ends with an error
 abbrev pub FailsBy : {W : Type 0} → (W → Option (List ℕ)) → BenchOptions → List (List ℕ) → Option (List ℕ) → W
     → ProgramError → W → Type 0
 FailsBy contents o names input out why new =
     (IsOfPlan o.bus.script names why × (new ≡ out))
     ⊎ ((plan : PlanSeen) × IsPlan o.bus.script names plan × StopsBy contents o names plan input out why new)
 
--- a run of these options is complete, with these names. The record has the configuration that the options give, and
--- this configuration is within its limits
+-- a run with these options and names is complete. The record has the configuration that the options define, and this
+-- configuration is within its limits
 pub record IsRunAsAsked {W : Type 0} (contents : W → Option (List ℕ)) (o : BenchOptions) (names : List (List ℕ))
     (input : Option (List ℕ)) (old : W) (r : Kept) (new : W) : Type 0 where
   pub plan : PlanSeen
@@ -52,8 +52,8 @@ pub record IsRunAsAsked {W : Type 0} (contents : W → Option (List ℕ)) (o : B
   pub proper : IsConfig r.config
   pub legal : IsLegal r.config r.history
 
--- a run of these options is complete and all its output was written; if the options are strict, the output has no
--- refusal
+-- a run with these options is complete and all its output was written; if the options are strict, the output contains
+-- no refusal
 pub record IsBenched {W : Type 0} (contents : W → Option (List ℕ)) (o : BenchOptions) (input : Option (List ℕ))
     (old new : W) : Type 0 where
   pub named : AreNames (names_in o.bus.names.now)
@@ -63,8 +63,8 @@ pub record IsBenched {W : Type 0} (contents : W → Option (List ℕ)) (o : Benc
   pub flushed : Keeps (contents written) (contents new)
   pub strict : o.is_strict ≡ true → GrowsQuietly (contents old) (contents written)
 
--- a run of these options is complete and all its output was written; if the bytes of the output are known, the options
--- are strict and the output has a refusal
+-- a run with these options is complete and all its output was written; if the bytes of the output are known, the
+-- options are strict and the output contains a refusal
 pub record MeetsRefusal {W : Type 0} (contents : W → Option (List ℕ)) (o : BenchOptions) (input : Option (List ℕ))
     (old new : W) : Type 0 where
   pub named : AreNames (names_in o.bus.names.now)
@@ -80,8 +80,8 @@ HasRun contents o input old ran new =
     MatchOption ran.refusal (IsBenched contents o input old new) (λ failure.
     (failure.error ≡ fault.Refused) × MeetsRefusal contents o input old new)
 
--- the bench of these options ends early: with a fault of its names, before anything was written; with a fault of the
--- writer; or with a fault of the run, whose output was written
+-- the bench with these options ends early: with an error in its names, before anything was written; with an error in
+-- writing; or with an error in the run, whose output was written
 abbrev pub IsStopped :
     {W : Type 0} → (W → Option (List ℕ)) → BenchOptions → Option (List ℕ) → W → ProgramError → W → Type 0
 IsStopped {W} contents o input old why new =
@@ -92,13 +92,13 @@ IsStopped {W} contents o input old why new =
     × FailsBy contents o (names_in o.bus.names.now) input old why written
     × Keeps (contents written) (contents new)))
 
--- a fault of the file for the record or for the log, if the options ask for one
+-- an error for the record's file or the log's file, if the options request these files
 abbrev pub IsOfOutputFiles : BenchOptions → ProgramError → Type 0
 IsOfOutputFiles o why =
     IsSomeAnd o.record (λ path. IsOfRecordFile path.now why)
     ⊎ IsSomeAnd o.log (λ path. IsOfLogFile o.bus path.now why)
 
--- the bench of these options ends with a fault: early, or after the run because of a file or a refused message
+-- the bench with these options ends with an error: early, or after the run because of a file or a refused message
 abbrev pub FailsAs :
     {W : Type 0} → (W → Option (List ℕ)) → BenchOptions → Option (List ℕ) → W → ProgramError → W → Type 0
 FailsAs contents o input old why new =

@@ -1,9 +1,9 @@
 use Rattle.std.specs.Prelude.{◌≡◌, ◌≤◌, ℕ, Bool, true, List, ◌∷◌, ◌++◌, codes, Option, Some, None}
 
--- Refusals in the output of a bench (own choice). A refusal is `< error TEXT >`, and its text begins with a small
--- letter. An error message frame has its class at that place, in digits and capital letters.
+-- Refusals in the output of a bench (own choice). A refusal is `< error TEXT >`, and its text begins with a lower-case
+-- letter. An error message frame has its class at that position, in digits and capital letters.
 
--- the text has a refusal
+-- the text contains a refusal
 pub record HasRefusal (text : List ℕ) : Type 0 where
   pub before : List ℕ
   pub letter : ℕ

@@ -30,14 +30,14 @@ use std::rt::Files;
 #[derive(Drop)]
 struct Ran<'a> {
     record: Record,
-    /// The report of the first refused message, if the options are strict and there was one.
+    /// The report for the first refused message, if the options are strict and a message was refused.
     refusal: Option<Report<'a>>,
 }
 
-/// Runs the bench with these options over the lines of an input. The names are checked first, then the script, and then the limits
-/// of the bus. After a complete run, the output is written first, and then the record and the log. The log is written even if the
-/// record could not be written; the fault of the record is then reported first. `ignored` receives which sessions had input outside
-/// messages. If the options are strict, a refused message is a fault, which is reported last.
+/// Runs the bench with these options and with the lines of an input. The names are checked first, then the script, and then the
+/// limits of the bus. After a complete run, the output is written first, and then the record and the log. The log is written even
+/// if the record could not be written; the error for the record is then reported first. `ignored` receives which sessions had input
+/// outside messages. If the options are strict, a refused message is an error, which is reported last.
 pub fn run_bench<'a, H: Files, R: Read + Drop, W: Write>(
     rt: &H,
     alloc: Global,
@@ -66,8 +66,8 @@ pub fn run_bench<'a, H: Files, R: Read + Drop, W: Write>(
     }
 }
 
-// Runs the bench with these options and writes all its output, even if the run has a fault. A fault in writing the output is
-// reported first.
+// Runs the bench with these options and writes all its output, even if the run ends with an error. An error in writing the output
+// is reported first.
 fn run_out<'a, H: Files, R: Read + Drop, W: Write>(
     rt: &H,
     alloc: Global,
@@ -93,7 +93,7 @@ fn run_out<'a, H: Files, R: Read + Drop, W: Write>(
     Ok(Ran { record, refusal })
 }
 
-// Writes the record and the log of a run, if the options ask for them. The log is never written over the record.
+// Writes the record and the log of a run, if the options request them. The log is never written over the record.
 fn save_run<'a, H: Files>(
     rt: &H,
     alloc: Global,
@@ -189,7 +189,7 @@ fn run_on<'a, R: Read + Drop, W: Write>(
     }
 }
 
-// Returns the notes on a fault of the bench.
+// Returns the notes on an error of the bench.
 fn bench_note<R: Read + Drop>(
     alloc: Global,
     fault: BenchFault,

@@ -2,7 +2,7 @@
 use can_session::{IgnoredInput, SessionNumber};
 use std::io::Write;
 
-/// Writes a note on each session that was fed an unfinished message or bytes outside messages.
+/// Writes a note on each session that received an unfinished message or bytes outside messages.
 pub fn tell_ignored<E: Write>(ignored: &IgnoredInput, errors: &mut E) {
     for number in 1..65_u8 {
         if let Some(session) = SessionNumber::new(number) {

@@ -10,8 +10,8 @@ use std::str;
 const CHANGE_FORM: &str =
     "down NAME or up NAME: one space comes before the name of an interface, as down can0";
 
-/// Returns a note with the wrong line of the bench's input and the reason. `bus` is the names of the bus, and `is_timed` is true if
-/// the bus has bit rates.
+/// Returns a note with the wrong line of the bench's input and the reason. `bus` contains the names of the bus, and `is_timed` is
+/// true if the bus has bit rates.
 pub fn input_note(
     alloc: Global,
     place: &str,
@@ -65,7 +65,7 @@ fn iface_note(alloc: Global, name: &[u8], bus: &str) -> Result<String, AllocErro
     }
 }
 
-// Returns the reason why a bench cannot run to a moment.
+// Returns the reason why a line that runs the bench to a timestamp is not valid.
 fn run_note(is_timed: bool) -> &'static str {
     if is_timed {
         "the moment set is a later one"
@@ -74,7 +74,7 @@ fn run_note(is_timed: bool) -> &'static str {
     }
 }
 
-// Returns the form that a line should have if it is not a valid order.
+// Returns the form that a line should have if it is not a valid command.
 fn form_of(line: &[u8], is_timed: bool) -> &'static str {
     if line.len() > LONGEST_LINE {
         return "a line has at most 4096 bytes";

@@ -8,14 +8,14 @@ use std::io::{Error, Read};
 /// The smallest number of recent bytes that the reader keeps. The bench never holds more of its input at once.
 const KEPT: usize = 8192;
 
-/// A reader that keeps the most recent bytes of its input, so that a line can be shown, and its last error.
+/// A reader that stores its last error and the most recent bytes of its input, so that a line can be shown.
 #[derive(Drop)]
 pub struct Recent<R: Read + Drop> {
     input: R,
     bytes: Vec<u8>,
     // The number of lines that ended before the kept bytes.
     lines_gone: u64,
-    // Whether bytes were lost for lack of memory.
+    // Whether bytes were lost because memory was lacking.
     is_lost: bool,
     error: Option<Error>,
 }
@@ -34,7 +34,7 @@ impl<R: Read + Drop> Recent<R> {
         }
     }
 
-    /// Returns the line with this number, counted from 1, as far as it was read. The line must begin within the last 8,192 bytes.
+    /// Returns line `number`, counted from 1, as far as it was read. The line must begin within the last 8,192 bytes.
     pub fn line(&self, number: u32) -> Option<&[u8]> {
         if self.is_lost {
             return None;

@@ -14,17 +14,17 @@ const FRONT: [u8; 8] = *b"< error ";
 /// The value of `seen` after the start of a refusal and a lower-case letter were found.
 const FOUND: u8 = 9;
 
-/// The largest number of bytes that are kept of a piece.
+/// The largest number of bytes that are kept from a piece of output.
 const KEPT: usize = 80;
 
-/// A writer that passes its output on. If `is_on` is true, it looks for the first refusal in the output.
+/// A writer that passes its output on to another writer. If `is_on` is true, it looks for the first refusal in the output.
 #[derive(Drop)]
 pub struct Watch<'w, W> {
     writer: &'w mut W,
     is_on: bool,
     // The number of bytes written so far.
     written: u64,
-    // The number of last bytes that may be the start of a refusal, or `FOUND`.
+    // How many of the last bytes may be the start of a refusal, or `FOUND`.
     seen: u8,
     // The first bytes of the piece that contains the first refusal. `place` is the number of bytes before that piece.
     piece: Vec<u8>,
@@ -67,7 +67,7 @@ impl<'w, W> Watch<'w, W> {
         }
     }
 
-    // Returns a note on the place of the first refusal.
+    // Returns a note on where the first refusal is in the output.
     fn note(&self, alloc: Global) -> Result<String, AllocError> {
         let piece = self.piece.strip_suffix(b"\n").unwrap_or(&self.piece);
         let (place, piece) = (self.place, Shown::cut(piece));
@@ -116,7 +116,7 @@ impl<W: Write> Write for Watch<'_, W> {
     }
 }
 
-// Returns the number of last bytes that may be the start of a refusal, after this piece was written.
+// Returns how many of the last bytes may be the start of a refusal, after this piece was written.
 #[tactic(auto, using(std::proofs::lemmas::List::Sums::fold_more))]
 fn seen_in(seen: u8, piece: &[u8]) -> u8
     ensures { result ≡ seen_in seen piece.now }

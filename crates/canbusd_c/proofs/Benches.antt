@@ -1,4 +1,4 @@
--- A bench is made from its parts, or the code says why not.
+-- Either a bench is created from its parts, or the returned code gives the reason.
 use Rattle.std.proofs.Common.{◌≡◌, ◌⊎◌, inl, inr, ℕ, Bool, List, length, Option, Ok, ap, subst, sym, ◌∙◌}
 use Rattle.can_frame.specs.Names.{names_in, AreNames}
 use Rattle.can_rules.specs.Plans.{PlanSeen, ReadsPlan}

@@ -4,12 +4,12 @@ use Rattle.can_filter.specs.Filters.{CanFilter}
 use Rattle.canbusd_c.specs.Calls.{filter_before, filters_of_structs}
 use Rattle.canbusd_c.specs.declared.shapes.CFilter.{CFilter}
 
--- the filters that were read, followed by the filters that were not read yet
+-- the filters that were already read, followed by the remaining filters
 abbrev pub before : List CanFilter → Option (List CanFilter) → Option (List CanFilter)
 before front None = None
 before front (Some filters) = Some (front ++ filters)
 
--- before the first filter is read, all filters follow
+-- before the first filter is read, all filters remain
 pub none_before : (rest : Option (List CanFilter)) → before [] rest ≡ rest
 none_before None = refl
 none_before (Some filters) = refl
@@ -33,7 +33,7 @@ pub all_read : (front : List CanFilter) → before front (filters_of_structs [])
 unfolding filters_of_structs
 all_read front = ap (λ (x : List CanFilter). Some x) (append-nil front)
 
--- whether a number is zero
+-- if a number is 0, its comparison with 0 is true
 pub zero_is : (n : ℕ) → n ≡ 0 → (n == 0) ≡ true
 zero_is n e = ap (λ (k : ℕ). k == 0) e
 

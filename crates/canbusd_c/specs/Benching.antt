@@ -19,7 +19,7 @@ use Rattle.canbusd_c.specs.Calls.{IsFront}
 use Rattle.canbusd_c.specs.Making.{HasRates, IsConfigIn, IsNoConfig, IsNoNames, IsNoTiming, timing_of_numbers}
 use Rattle.canbusd_c.specs.declared.shapes.CConfig.{CConfig}
 
--- A bench inside the calling process: it does what that of can_session does, line by line (own choice).
+-- A bench inside the calling process. It carries out lines as a bench of can_session does (own choice).
 
 -- a bench, and the output of the lines of the last call
 pub record KeptBench : Type 0 where
@@ -31,7 +31,7 @@ abbrev pub kept_at_start : Bool → PlanSeen → Option BusTiming → List (List
 kept_at_start shows plan timing names config capacity =
     record { bench = at_start_with shows plan timing names config capacity; output = [] }
 
--- the lines are carried out, and their output is kept
+-- the lines are carried out, and their output is stored
 abbrev pub KeepsLines : List ℕ → KeptBench → Result (Unit {0}) BenchFault → KeptBench → Type 0
 KeepsLines lines old outcome new = TakesLines no_verdicts lines old.bench [] outcome new.bench new.output
 
@@ -54,7 +54,7 @@ abbrev pub IsLineTold : Result (Unit {0}) BenchFault → ℕ → ℕ → ℕ →
 IsLineTold (Ok done) before code line = (code ≡ 0) × (line ≡ before)
 IsLineTold (Err why) before code line = (code ≡ fault_code why) × (line ≡ fault_line before why)
 
--- the text is written as far as there is room, and its full length is written too
+-- the beginning of the text is written, as much as fits into the buffer, and its full length is also written
 abbrev pub IsTextOut : List ℕ → List ℕ → ℕ → List ℕ → Type 0
 IsTextOut text before len after = (len ≡ length text) × IsFront text before after
 
@@ -73,11 +73,11 @@ bench_record b = text_of (record_of b.bench.bus.journal.config b.bench.bus.journ
 abbrev pub bench_log : KeptBench → List ℕ
 bench_log b = joined (log_lines b.bench.bus.names b.bench.bus.journal.history)
 
--- the text is written, or memory was refused
+-- the text and its length are written, or memory was refused
 abbrev pub IsTextCall : List ℕ → List ℕ → ℕ → ℕ → List ℕ → Type 0
 IsTextCall text before code len after = MatchBool (code == 0) (IsTextOut text before len after) (code ≡ 10)
 
--- the code for why a text spells no faults, and the number of the wrong line
+-- the code for the reason why a text spells no faults, and the number of the wrong line
 abbrev pub plan_code : PlanError → ℕ
 plan_code (plan.Script (script.BadLine n)) = 25
 plan_code (plan.Script (script.UnknownInterface n)) = 2
@@ -92,14 +92,15 @@ plan_line before (plan.Script (script.RepeatedAttempt n)) = n
 plan_line before (plan.Script script.NoMemory) = before
 plan_line before (plan.TooManyRules n) = n
 
--- the text spells no faults for a bus with these names: it is not UTF-8, this is the fault of its first wrong line, or
--- memory was refused
+-- the text spells no faults for a bus with these names: it is not UTF-8, its first wrong line has this fault, or memory
+-- was refused
 abbrev pub IsNoPlan : List (List ℕ) → List ℕ → ℕ → ℕ → ℕ → Type 0
 IsNoPlan names faults before code line =
     ((code ≡ 25) × (line ≡ before) × (IsUtf8 faults → ⊥))
     ⊎ ((why : PlanError) × ReadsPlan names faults (Err why) × (code ≡ plan_code why) × (line ≡ plan_line before why))
 
--- the bench is made from the names in one text, a struct, and the faults in another text; no line was carried out yet
+-- the bench is created from a string of names, a configuration struct, and the text of the faults; no line has been
+-- carried out yet
 pub record IsBenchOf (text : List ℕ) (c : CConfig) (capacity : ℕ) (shows : Bool) (faults : List ℕ)
     (b : KeptBench) : Type 0 where
   pub config : BusConfig
@@ -111,7 +112,7 @@ pub record IsBenchOf (text : List ℕ) (c : CConfig) (capacity : ℕ) (shows : B
   pub rates : HasRates c
   pub made : b ≡ kept_at_start shows plan (timing_of_numbers c.bitrate c.data_bitrate) (names_in text) config capacity
 
--- the reason why no such bench is made
+-- the reason why no such bench can be created
 abbrev pub IsNoBench : List ℕ → CConfig → ℕ → List ℕ → ℕ → ℕ → ℕ → Type 0
 IsNoBench text c capacity faults before code line =
     ((IsNoNames text code ⊎ IsNoTiming c code ⊎ IsNoConfig c code) × (line ≡ before))
@@ -120,7 +121,7 @@ IsNoBench text c capacity faults before code line =
     × (IsBench (names_in text) config capacity → ⊥))
     ⊎ ((code ≡ 10) × (line ≡ before))
 
--- a bench is made, or the code says why not
+-- a bench is created, or the code gives the reason why not
 abbrev pub IsBenchCall : List ℕ → CConfig → ℕ → ℕ → List ℕ → ℕ → ℕ → ℕ → Type 0
 IsBenchCall text c capacity shows faults before code line =
     MatchBool (code == 0)

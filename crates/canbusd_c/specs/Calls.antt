@@ -46,7 +46,7 @@ socket s = record { 0 = s }
 abbrev pub IsBadCall : ℕ → Local → ℕ → Local → Type 0
 IsBadCall bad old code new = (code ≡ bad) × (new ≡ old)
 
--- one event of the bus; the call returns its code and writes its value
+-- one event on the bus; the call returns its code and writes its value
 abbrev pub IsToldEvent : {A : Type 0} → (A → Reply) → Local → Event → ℕ → A → Local → Type 0
 IsToldEvent {A} reply_of old event code value new =
     (outcome : Result A Refusal)
@@ -83,7 +83,7 @@ unfoldable pub filters_of_structs : List CFilter → Option (List CanFilter)
 filters_of_structs [] = Some []
 filters_of_structs (f ∷ fs) = filter_before f (bit_and f.mask (2 ^ 29) == 0) (filters_of_structs fs)
 
--- the filters, or the code for why there are none: one is invalid, or memory was refused
+-- the filters, or the code for the reason why there are none: one is invalid, or memory was refused
 abbrev pub AreFilters : {A : Type 0} → Option (List CanFilter) → Result (Vec CanFilter A) ℕ → Type 0
 AreFilters all (Ok filters) = all ≡ Some filters.items
 AreFilters all (Err code) = (code ≡ 10) ⊎ ((code ≡ 16) × (all ≡ None))
@@ -100,7 +100,7 @@ IsOptionCall s None old code new = IsBadCall 15 old code new
 IsOptionCall s (Some option) old code new =
     IsToldEvent done_reply old (event.SetOption (socket s) option) code tt new
 
--- the item that was taken is written; code 12 means that no item waits
+-- the item that was taken is written; code 12 means that no item is waiting
 abbrev pub IsItemTold : Received → Result Bool Refusal → ℕ → CItem → Type 0
 IsItemTold room (Ok true) code item = (code ≡ 0) × (item ≡ item_out room)
 IsItemTold room (Ok false) code item = code ≡ 12
@@ -118,7 +118,7 @@ abbrev pub IsAttemptTold : Result Attempt Refusal → ℕ → CTried → Type 0
 IsAttemptTold (Ok attempt) code tried = (code ≡ 0) × (tried ≡ tried_out attempt)
 IsAttemptTold (Err why) code tried = code ≡ refusal_code why
 
--- an attempt is made at a moment
+-- an attempt is made at this moment
 abbrev pub IsAttemptCall : Option ℕ → Local → ℕ → CTried → Local → Type 0
 IsAttemptCall None old code tried new = IsBadCall 14 old code new
 IsAttemptCall (Some moment) old code tried new =
@@ -126,7 +126,7 @@ IsAttemptCall (Some moment) old code tried new =
     × IsLocalTry (local_at_moment moment old) outcome new
     × IsAttemptTold outcome code tried
 
--- a run to a moment, and the number of attempts that it made
+-- a run to a moment; how many attempts it made is written
 abbrev pub IsRunCall : Option ℕ → Local → ℕ → ℕ → Local → Type 0
 IsRunCall None old code made new = IsBadCall 14 old code new
 IsRunCall (Some moment) old code made new =
@@ -164,7 +164,7 @@ iface_counts b (Some iface) = iface_stats_of b.bus.journal.config b.bus.journal.
 abbrev pub socket_counts : Local → ℕ → Option SocketStats
 socket_counts b s = socket_stats_of b.bus.journal.config b.bus.journal.history s
 
--- as much of the text as there is room for; the room after the text is unchanged
+-- as much of the text as fits into the buffer; the rest of the buffer is unchanged
 abbrev pub IsFront : List ℕ → List ℕ → List ℕ → Type 0
 IsFront text before after = after ≡ take (length before) text ++ drop (length text) before
 
@@ -177,7 +177,7 @@ IsLoadCall (Some moment) b code load = (code ≡ 0) × (load ≡ load_out (load_
 abbrev pub record_text_at : Local → List ℕ
 record_text_at b = text_of (record_of b.bus.journal.config b.bus.journal.history)
 
--- the text of the record is written as far as there is room, and so is its full length; or memory was refused
+-- the text of the record is written, as much as fits into the buffer, and so is its full length; or memory was refused
 abbrev pub IsRecordCall : Local → List ℕ → ℕ → ℕ → List ℕ → Type 0
 IsRecordCall b before code len after =
     MatchBool (code == 0) ((len ≡ length (record_text_at b)) × IsFront (record_text_at b) before after) (code ≡ 10)

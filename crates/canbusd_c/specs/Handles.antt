@@ -16,7 +16,7 @@ use Rattle.canbusd_c.specs.contracts.local_bench.LocalBench.{the_row as bench_ro
 abbrev pub with_value : Handle → Local → Handle
 with_value h b = record { at = h.at; value = b }
 
--- once the borrow r ends, the handle of the borrow h has the bus that was last written through r
+-- when the borrow r ends, the handle of the borrow h has the bus that was last written through r
 abbrev pub handle_follows : MutBor Handle → MutBor Local → Fml
 handle_follows h r = follows handle_row bus_row h.ghost_name r.ghost_name (with_value h.now)
 

@@ -19,14 +19,14 @@ use Rattle.can_session.specs.Wires.{nothing_yet, attempt_moment, schedule_left, 
 use Rattle.canbusd_c.specs.declared.local_bus.RunFault.{RunFault}
 use Rattle.canbusd_c.specs.declared.local_bus.RunFault.TheVariants.{BadRun, RecordFull}
 
--- A bus inside the calling process: it takes the events of can_bus, and makes attempts as a bench does (own choice).
+-- A bus inside the calling process. It accepts the events of can_bus, and makes attempts as a bench does (own choice).
 
--- a bus with names, a plan and a schedule, and the moment that is set on it
+-- a bus with names, a plan and a schedule, and its current moment
 pub record Local : Type 0 where
   pub bus : NamedBus
   pub moment : ℕ
 
--- the bus before the first call: no event, no rule, and the moment 0
+-- the bus before the first call: there is no event and no rule, and the current moment is 0
 abbrev pub local_at_start : List (List ℕ) → BusConfig → Option BusTiming → Local
 local_at_start names config timing = record {
   bus = record {
@@ -46,11 +46,11 @@ local_with_journal b journal = record b { bus = record b.bus { journal = journal
 abbrev pub local_with_plan : Local → PlanSeen → Local
 local_with_plan b plan = record b { bus = record b.bus { plan = plan } }
 
--- the bus with this moment set
+-- the bus with this current moment
 abbrev pub local_at_moment : ℕ → Local → Local
 local_at_moment moment b = record b { moment = moment }
 
--- one event of the bus, with the bus's reply; nothing else changes
+-- one event on the bus, with the bus's reply; nothing else changes
 abbrev pub IsLocalEvent : {A : Type 0} → (A → Reply) → Local → Event → Result A Refusal → Local → Type 0
 IsLocalEvent {A} told old event outcome new =
     Answers told old.bus.journal event outcome new.bus.journal × (new ≡ local_with_journal old new.bus.journal)
@@ -59,7 +59,7 @@ IsLocalEvent {A} told old event outcome new =
 abbrev pub next_local_moment : Bool → Local → ℕ
 next_local_moment waits b = attempt_moment b.moment waits (head_on b.bus) b.bus.schedule
 
--- the bus after the time of an attempt with this verdict and this result; a refused attempt takes no time
+-- the bus after the time that an attempt with this verdict and this result takes; a refused attempt takes no time
 abbrev pub local_passed : Bool → Verdict → Result Attempt Refusal → Local → Local
 local_passed waits v (Ok a) b = record b {
   moment = moment_left b.moment (schedule_left b.moment waits v a b.bus.schedule);
@@ -67,7 +67,7 @@ local_passed waits v (Ok a) b = record b {
 }
 local_passed waits v (Err why) b = b
 
--- an attempt at the moment that is set, with the verdict that the plan gives it
+-- an attempt at the current moment, with the verdict that the plan gives it
 pub record IsLocalTry (b : Local) (outcome : Result Attempt Refusal) (after : Local) : Type 0 where
   pub journal : Journal
   pub answers : Answers reply.Attempted b.bus.journal
@@ -75,7 +75,7 @@ pub record IsLocalTry (b : Local) (outcome : Result Attempt Refusal) (after : Lo
   pub after_is : after ≡ local_passed (waits_in_time b.bus) (verdict_on b.bus Good) outcome
       (local_with_journal (local_with_plan b (plan_left b.bus Good)) journal)
 
--- an attempt would begin before this moment, and it has a frame to try, or an interface waits for its restart
+-- an attempt would begin before this moment, and either it has a frame to try or an interface waits for its restart
 abbrev pub is_local_due : ℕ → Local → Bool
 is_local_due moment b = begins_before b.moment moment b.bus.schedule && (is_some (head_on b.bus) || waits_in_time b.bus)
 
@@ -95,12 +95,12 @@ AreDueMade moment b (Err fault) after =
     (n : ℕ) × (mid : Local) × (why : Refusal)
     × AreLocalTries moment n b mid × (is_local_due moment mid ≡ true) × IsLocalTry mid (Err why) after
 
--- the bus can run to this moment: it has bit rates, and the moment that is set is not later
+-- the bus can run to this moment: it has bit rates, and its current moment is not later
 abbrev pub can_run_to : ℕ → Local → Bool
 can_run_to moment b = is_some b.bus.schedule && nat_le b.moment moment
 
--- a run to this moment makes attempts as long as one is due, counts them, and then sets the moment. It ends early if a
--- due attempt is refused because the record is full
+-- a run to this moment makes attempts as long as one is due, counts them, and then sets the current moment. It ends
+-- early if a due attempt is refused because the record is full
 abbrev pub IsLocalRun : ℕ → Local → Result ℕ RunFault → Local → Type 0
 IsLocalRun moment b (Ok n) after =
     (mid : Local)

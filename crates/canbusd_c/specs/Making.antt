@@ -10,13 +10,13 @@ use Rattle.can_wire.specs.Times.{AreBitRates}
 use Rattle.canbusd_c.specs.Locals.{Local, local_at_start}
 use Rattle.canbusd_c.specs.declared.shapes.CConfig.{CConfig}
 
--- The parts from which a bus is made.
+-- The parts from which a bus is created.
 
 -- the acknowledge mode with this number: frames are always acknowledged, or only by receivers
 abbrev pub ack_of_number : ℕ → Option AckMode
 ack_of_number n = if n == 0 then Some ack.Always else if n == 1 then Some ack.Peers else None
 
--- the bit rates that two numbers give; 0 means no bit rate
+-- the bit rates that two numbers define; 0 means no bit rate
 abbrev pub timing_of_numbers : ℕ → ℕ → Option BusTiming
 timing_of_numbers nominal fast =
     if nominal == 0 then None else Some (timing_of nominal (if fast == 0 then None else Some fast))
@@ -30,7 +30,7 @@ AreRatesIn (Some timing) fast = AreBitRates timing.rates
 abbrev pub HasRates : CConfig → Type 0
 HasRates c = AreRatesIn (timing_of_numbers c.bitrate c.data_bitrate) c.data_bitrate
 
--- the struct gives this configuration to a bus with n interfaces
+-- the struct defines this configuration for a bus with n interfaces
 pub record IsConfigIn (n : ℕ) (c : CConfig) (config : BusConfig) : Type 0 where
   pub ack : ack_of_number c.ack ≡ Some config.ack
   pub few_reporting : c.reporting < 2 ^ 16
@@ -43,7 +43,7 @@ pub record IsConfigIn (n : ℕ) (c : CConfig) (config : BusConfig) : Type 0 wher
     auto_restart = c.auto_restart;
   }
 
--- the bus is made from the names in a text and from a struct; nothing was done on it
+-- the bus is created from a string of names and a configuration struct; it has no events yet
 pub record IsMadeOf (text : List ℕ) (c : CConfig) (b : Local) : Type 0 where
   pub config : BusConfig
   pub config_is : IsConfigIn (length (names_in text)) c config
@@ -52,7 +52,8 @@ pub record IsMadeOf (text : List ℕ) (c : CConfig) (b : Local) : Type 0 where
   pub rates : HasRates c
   pub made : b ≡ local_at_start (names_in text) config (timing_of_numbers c.bitrate c.data_bitrate)
 
--- the reason why a text has no names for a bus: it is not UTF-8, a bus may not have these names, or memory was refused
+-- the reason why a string has no valid names for a bus: it is not UTF-8, a bus may not have these names, or memory was
+-- refused
 abbrev pub IsNoNames : List ℕ → ℕ → Type 0
 IsNoNames text code = (code ≡ 10) ⊎ ((code ≡ 20) × (IsUtf8 text → AreNames (names_in text) → ⊥))
 
@@ -60,11 +61,12 @@ IsNoNames text code = (code ≡ 10) ⊎ ((code ≡ 20) × (IsUtf8 text → AreNa
 abbrev pub IsNoTiming : CConfig → ℕ → Type 0
 IsNoTiming c code = (code ≡ 22) × (HasRates c → ⊥)
 
--- the struct gives no configuration: the acknowledge mode is unknown, or an interface that cannot exist reports faults
+-- the struct defines no configuration: the acknowledge mode is unknown, or an interface that cannot exist reports
+-- faults
 abbrev pub IsNoConfig : CConfig → ℕ → Type 0
 IsNoConfig c code = (code ≡ 21) × ((ack_of_number c.ack ≡ None) ⊎ (2 ^ 16 ≤ c.reporting))
 
--- the reason why no bus is made from a text and a struct
+-- the reason why no bus can be created from a string of names and a struct
 abbrev pub IsNoBus : List ℕ → CConfig → ℕ → Type 0
 IsNoBus text c code =
     IsNoNames text code
@@ -72,6 +74,6 @@ IsNoBus text c code =
     ⊎ IsNoConfig c code
     ⊎ ((code ≡ 21) × (config : BusConfig) × IsConfigIn (length (names_in text)) c config × (IsConfig config → ⊥))
 
--- a bus is made from a text and a struct, or the code says why not
+-- a bus is created from a string of names and a struct, or the code gives the reason why not
 abbrev pub IsNewCall : List ℕ → CConfig → ℕ → Type 0
 IsNewCall text c code = MatchBool (code == 0) ((b : Local) × IsMadeOf text c b) (IsNoBus text c code)

@@ -26,13 +26,14 @@ use Rattle.canbusd_c.specs.declared.shapes.CStatus.{CStatus}
 use Rattle.canbusd_c.specs.declared.shapes.CStats.{CStats}
 use Rattle.canbusd_c.specs.declared.shapes.CLoad.{CLoad}
 
--- The structs of canbusd.h: frames are those of linux/can.h, the others are own choice.
+-- The structs of canbusd.h. Frames have the layout of linux/can.h; the other structs are own choice.
 
 -- whether a bit of a number is set
 abbrev pub has_bit : ℕ → ℕ → Bool
 has_bit n bit = not (bit_and n bit == 0)
 
--- the identifier in an identifier word: CAN_EFF_FLAG marks 29 bits; a number that is too large for its kind gives none
+-- the identifier in an identifier word: CAN_EFF_FLAG marks a 29-bit identifier; there is no identifier if the number is
+-- out of range
 abbrev pub id_of_word : ℕ → Option Identifier
 id_of_word word =
     if has_bit word (2 ^ 31) then Some (record { extended = true; number = bit_and word (2 ^ 29 - 1) })
@@ -55,7 +56,7 @@ fd_of_struct id f (Some flags) =
     else if is_fd_length f.len then Some (record { id = id; payload = Fd flags (take f.len f.bytes) })
     else None
 
--- the frame of a struct with this identifier: CANFD_FDF is 4, and classic frames have no flags
+-- the frame in a struct with this identifier: CANFD_FDF is 4, and classic frames have no flags
 abbrev pub frame_of_struct_with : CFrame → Option Identifier → Option CanFrame
 frame_of_struct_with f None = None
 frame_of_struct_with f (Some id) =
@@ -63,7 +64,7 @@ frame_of_struct_with f (Some id) =
     else if nat_lt f.flags 4 then None
     else fd_of_struct id f (flags_of (f.flags - 4))
 
--- the frame of a struct, if it is valid; no frame has CAN_ERR_FLAG
+-- the frame in a struct, if it is valid; CAN_ERR_FLAG is not valid in a frame
 abbrev pub frame_of_struct : CFrame → Option CanFrame
 frame_of_struct f = if has_bit f.id (2 ^ 29) then None else frame_of_struct_with f (id_of_word f.id)
 

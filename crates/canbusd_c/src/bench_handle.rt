@@ -1,11 +1,11 @@
-//! A bench that a C program holds. Nothing checks that a pointer from C was returned by `canbusd_c_bench_new` and was not freed, or
-//! that only one thread uses it at a time.
+//! A bench that is owned by a C program. Nothing checks that a pointer from C was returned by `canbusd_c_bench_new` and was not
+//! freed, or that only one thread uses it at a time.
 ghost use Rattle.canbusd_c.specs.Benching.{KeptBench};
 ghost use Rattle.canbusd_c.specs.contracts.local_bench.LocalBench.{the_row};
 
 use std::marker::Model;
 
-/// A handle of a bench for C: a pointer to the box that contains the bench.
+/// A handle for a bench in C: a pointer to the box that contains the bench.
 #[repr(C)]
 #[derive(Drop)]
 pub struct BenchHandle {

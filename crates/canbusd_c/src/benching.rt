@@ -1,4 +1,4 @@
-//! Carries out each export on the bench of a handle.
+//! Carries out each exported function on the bench of a handle.
 ghost use Rattle.std.specs.Prelude.{◌≡◌, ◌≢◌, IfErr, IfOk, Ok};
 ghost use Rattle.can_rules.specs.Plans.{ReadsPlan};
 ghost use Rattle.canbusd_c.specs.Codes.{IsUntouched};
@@ -16,7 +16,7 @@ use can_rules::Plan;
 use std::alloc::Global;
 use std::str;
 
-/// Makes a bench, or returns the code of the error. If a line of the faults is wrong, the line number is written to `line`.
+/// Creates a bench, or returns the code of the error. If a line of the faults is wrong, the line number is written to `line`.
 pub fn make_bench(
     alloc: Global,
     names: &[u8],

@@ -1,4 +1,4 @@
-//! Carries out each export on the bus of a handle.
+//! Carries out each exported function on the bus of a handle.
 ghost use Rattle.std.specs.Prelude.{◌≡◌};
 ghost use Rattle.can_event.specs.declared.event.Event.TheVariants as event;
 ghost use Rattle.can_rules.specs.Plans.{without_rules};
@@ -123,7 +123,7 @@ fn tried_code(outcome: &Result<Attempt, Refusal>, tried: &mut CTried) -> u32
     }
 }
 
-/// Makes all attempts that are due before this moment. Their number is written to `made`.
+/// Makes all attempts that are due before this moment. How many attempts were made is written to `made`.
 pub fn run(bus: &mut LocalBus, moment: u64, made: &mut u64) -> u32
     ensures ran { IsRunCall (moment_of_micros moment) bus.old result made.new bus.new }
     ensures kept { IsUntouched result made.old made.new }
@@ -180,7 +180,7 @@ pub fn iface_of(number: u32) -> Option<Iface>
     }
 }
 
-/// Returns the moment with this number of microseconds, if it is in range.
+/// Returns the moment at this number of microseconds, if it is in range.
 pub fn moment_of(micros: u64) -> Option<Moment>
     ensures { result ≡ moment_of_micros micros }
 {

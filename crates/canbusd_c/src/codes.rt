@@ -1,4 +1,4 @@
-//! The codes that calls return. 0 means that the call was carried out; other codes are refusals.
+//! The codes that calls return. 0 means that the call was carried out; the other codes are reasons for a refusal.
 ghost use Rattle.std.specs.Prelude.{◌≡◌, Err};
 ghost use Rattle.canbusd_c.specs.Codes.{IsTold, IsUntouched, refusal_code, rule_code, run_code};
 ghost use Rattle.canbusd_c.specs.Benching.{IsLineTold, plan_code, plan_line};
@@ -56,14 +56,14 @@ pub const BAD_CONFIG: u32 = 21;
 pub const BAD_BIT_RATES: u32 = 22;
 
 pub const BAD_RUN: u32 = 23;
-// The code 24 is for a null pointer, which canbusd.c detects.
+// Code 24 is reserved for a null pointer, which canbusd.c detects.
 pub const BAD_LINE: u32 = 25;
 
 pub const REPEATED_ATTEMPT: u32 = 26;
 
 pub const TOO_LONG: u32 = 27;
 
-/// Returns the code of a refusal.
+/// Returns the code for a refusal.
 pub fn refusal_code(why: Refusal) -> u32
     ensures { result ≡ refusal_code why }
 {
@@ -82,7 +82,7 @@ pub fn refusal_code(why: Refusal) -> u32
     }
 }
 
-/// Returns the code of a call that returns nothing else.
+/// Returns the code for a call that returns nothing else.
 pub fn done_code(outcome: Result<(), Refusal>) -> u32
     ensures { IsTold refusal_code outcome result tt }
 {
@@ -92,7 +92,7 @@ pub fn done_code(outcome: Result<(), Refusal>) -> u32
     }
 }
 
-/// Returns the code of a call that also returns a number. If the call was carried out, the number is written.
+/// Returns the code for a call that also returns a number. If the call was carried out, the number is written to `number`.
 pub fn number_code(outcome: Result<u64, Refusal>, number: &mut u64) -> u32
     ensures told { IsTold refusal_code outcome result number.new }
     ensures kept { IsUntouched result number.old number.new }
@@ -106,7 +106,7 @@ pub fn number_code(outcome: Result<u64, Refusal>, number: &mut u64) -> u32
     }
 }
 
-/// Returns the code of a call that adds a fault rule.
+/// Returns the code for a call that adds a fault rule.
 pub fn rule_code(outcome: Result<(), RuleRefusal>) -> u32
     ensures { IsTold rule_code outcome result tt }
 {
@@ -119,7 +119,7 @@ pub fn rule_code(outcome: Result<(), RuleRefusal>) -> u32
     }
 }
 
-/// Returns the code of a run. If the run was carried out, the number of its attempts is written to `made`.
+/// Returns the code for a run. If the run was carried out, the number of its attempts is written to `made`.
 pub fn run_code(outcome: Result<u64, RunFault>, made: &mut u64) -> u32
     ensures told { IsTold run_code outcome result made.new }
     ensures kept { IsUntouched result made.old made.new }
@@ -134,7 +134,8 @@ pub fn run_code(outcome: Result<u64, RunFault>, made: &mut u64) -> u32
     }
 }
 
-/// Returns the code of a bench that could not be made or that stopped at a line. If a line is wrong, the line number is written.
+/// Returns the code for a bench that could not be created or that stopped at a line. If a line is wrong, the line number is written
+/// to `line`.
 pub fn bench_code(fault: BenchFault, line: &mut usize) -> u32
     ensures { IsLineTold (Err fault) line.old result line.new }
 {
@@ -149,7 +150,7 @@ pub fn bench_code(fault: BenchFault, line: &mut usize) -> u32
     }
 }
 
-/// Returns the code of a text that does not spell faults. The number of the wrong line is written.
+/// Returns the code for a text that does not spell faults. The number of the wrong line is written to `line`.
 pub fn plan_code(fault: PlanError, line: &mut usize) -> u32
     ensures code { result ≡ plan_code fault }
     ensures line { line.new ≡ plan_line line.old fault }

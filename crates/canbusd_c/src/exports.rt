@@ -1,4 +1,5 @@
-//! The functions that C calls. Each calls a function of `calls`, `looks` or `benching` for the bus or the bench of a handle.
+//! The functions that C calls. Each of them calls a function of `calls`, `looks` or `benching` for the bus or the bench of a
+//! handle.
 ghost use Rattle.std.specs.Prelude.{◌≡◌};
 ghost use Rattle.can_event.specs.declared.event.Event.TheVariants as event;
 ghost use Rattle.can_rules.specs.Plans.{without_rules};

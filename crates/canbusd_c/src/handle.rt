@@ -1,11 +1,11 @@
-//! A bus that a C program holds. Nothing checks that a pointer from C was returned by `canbusd_c_new` and was not freed, or that
-//! only one thread uses it at a time.
+//! A bus that is owned by a C program. Nothing checks that a pointer from C was returned by `canbusd_c_new` and was not freed, or
+//! that only one thread uses it at a time.
 ghost use Rattle.canbusd_c.specs.Locals.{Local};
 ghost use Rattle.canbusd_c.specs.contracts.local_bus.LocalBus.{the_row};
 
 use std::marker::Model;
 
-/// A handle of a bus for C: a pointer to the box that contains the bus.
+/// A handle for a bus in C: a pointer to the box that contains the bus.
 #[repr(C)]
 #[derive(Drop)]
 pub struct Handle {

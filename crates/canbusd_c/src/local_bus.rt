@@ -28,19 +28,19 @@ use std::alloc::Global;
 use std::marker::Model;
 use thiserror::Error;
 
-/// The reason why a bus does not run to a moment.
+/// The reason why a bus cannot run to a moment.
 #[derive(Debug, Clone, Copy, PartialEq, Eq, Error)]
 pub enum RunFault {
     /// The bus has no bit rates, or its current moment is later.
     #[error("cannot run")]
     BadRun,
-    /// The record has no space for an attempt that is due.
+    /// The record has no room for an attempt that is due.
     #[error("record full")]
     RecordFull,
 }
 
-/// A bus with the names of its interfaces, the plan of its faults, the schedule of its attempts and the current moment. Each call
-/// does what the same call of a bus or a bench does.
+/// A bus with the names of its interfaces, the plan of its faults, the schedule of its attempts and the current moment. Each method
+/// does the same as the corresponding call of a bus or a bench.
 #[derive(Drop)]
 pub struct LocalBus {
     alloc: Global,
@@ -146,9 +146,9 @@ impl LocalBus {
         self.bus.down(iface, moment)
     }
 
-    /// Sets the current moment and tries the frame that wins arbitration, as the attempt of a bench does. The fault rules give the
+    /// Sets the current moment and tries the frame that wins arbitration, as an attempt of a bench does. The fault rules give the
     /// verdict. On a bus with bit rates, the attempt begins at that moment or when the wire becomes free, whichever is later.
-    /// Afterwards the current moment is the one at which the wire is free again.
+    /// Afterwards the current moment is the time at which the wire is free again.
     pub fn attempt_at(&mut self, moment: Moment) -> Result<Attempt, Refusal>
         ensures { IsLocalTry (local_at_moment moment self.old) result self.new }
     {
@@ -284,7 +284,7 @@ impl LocalBus {
         self.schedule.is_some() && self.bus.is_counting()
     }
 
-    /// Returns the moment of the next attempt. `waits` is whether an interface is waiting for its restart; it matters only if the
+    /// Returns the moment of the next attempt. `waits` is true if an interface is waiting for its restart; it matters only if the
     /// attempt has no frame.
     fn next_moment(&self, waits: bool) -> Moment
         ensures { result ≡ next_local_moment waits self.now }
@@ -311,7 +311,7 @@ impl LocalBus {
         }
     }
 
-    /// Advances the schedule and the current moment by the time that an attempt took. `waits` is whether an interface was waiting
+    /// Advances the schedule and the current moment by the time that an attempt took. `waits` is true if an interface was waiting
     /// for its restart before the attempt.
     fn pass(&mut self, waits: bool, verdict: Verdict, outcome: &Result<Attempt, Refusal>)
         ensures { self.new ≡ local_passed waits verdict outcome.now self.old }
@@ -327,7 +327,7 @@ impl LocalBus {
         self.moment = schedule.wire().free_at();
     }
 
-    /// Returns whether an attempt would begin before this moment and either has a frame to send or lets time pass for an interface
+    /// Returns whether an attempt would begin before this moment and either has a frame to send or takes up time for an interface
     /// that waits for its restart.
     fn is_due(&self, moment: Moment) -> bool
         ensures { result ≡ is_local_due moment self.now }

@@ -1,4 +1,4 @@
-//! Reads from a bus: counts, load and record. It also sets filters.
+//! Reads the counts, the load and the record of a bus. It also sets filters.
 ghost use Rattle.std.specs.Prelude.{◌≡◌, ◌<◌, ◌≤◌, ◌+◌, length, take, drop, IfOk, Some, None, replicate, ◌∷◌, [], true};
 ghost use Rattle.can_filter.specs.Filters.{CanFilter};
 ghost use Rattle.can_event.specs.declared.event.Event.TheVariants as event;

@@ -1,4 +1,4 @@
-//! Makes a bus from the arguments that C passes.
+//! Creates a bus from the arguments that C passes.
 ghost use Rattle.std.specs.Prelude.{◌≡◌, ◌≢◌, IfOk, IfErr, OnOk};
 ghost use Rattle.can_frame.specs.Names.{names_in, AreNames};
 ghost use Rattle.canbusd_c.specs.Making.{HasRates, IsConfigIn, IsMadeOf, IsNoBus, IsNoConfig, IsNoNames, IsNoTiming, timing_of_numbers};
@@ -13,7 +13,7 @@ use can_wire::Timing;
 use std::alloc::Global;
 use std::str;
 
-/// Makes a bus, or returns the code of the error.
+/// Creates a bus, or returns the code of the error.
 pub fn make(alloc: Global, names: &[u8], config: &CConfig) -> Result<Box<LocalBus>, u32>
     ensures made { IfOk result (λ bus. IsMadeOf names.now config.now bus.value) }
     ensures refused { IfErr result (λ code. code ≢ 0) }
@@ -32,7 +32,7 @@ pub fn make(alloc: Global, names: &[u8], config: &CConfig) -> Result<Box<LocalBu
     }
 }
 
-/// Returns the names in a text, where commas separate the names.
+/// Returns the names in a string, where commas separate the names.
 pub fn names_of(alloc: Global, names: &[u8]) -> Result<Names, u32>
     ensures read { IfOk result (λ found. found ≡ names_in names.now) }
     ensures refused { IfErr result (λ code. code ≢ 0) }

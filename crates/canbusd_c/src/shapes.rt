@@ -1,7 +1,7 @@
 //! The structs that C programs pass and receive. They consist of numbers and are declared in canbusd.h.
 
-/// A frame, as struct canfd_frame of linux/can.h. `id` is the identifier with CAN_EFF_FLAG and CAN_RTR_FLAG, `len` is the number of
-/// bytes, and `flags` has CANFD_BRS, CANFD_ESI and CANFD_FDF.
+/// A frame, with the layout of struct canfd_frame in linux/can.h. `id` is the identifier with CAN_EFF_FLAG and CAN_RTR_FLAG, `len`
+/// is the number of bytes, and `flags` contains CANFD_BRS, CANFD_ESI and CANFD_FDF.
 #[repr(C)]
 #[derive(Debug, Clone, Copy, Drop)]
 pub struct CFrame {
@@ -26,9 +26,9 @@ pub struct CItem {
 #[repr(C)]
 #[derive(Debug, Clone, Copy, Drop)]
 pub struct CConfig {
-    /// 0 if each frame is acknowledged, or 1 if a frame is acknowledged only if a receiver gets it completely.
+    /// 0 if every frame is acknowledged, or 1 if a frame is acknowledged only if a receiver gets it completely.
     pub ack: u32,
-    /// The interfaces whose sockets receive a frame for each fault, one bit for each interface.
+    /// The interfaces whose sockets receive a frame for each fault. There is one bit for each interface.
     pub reporting: u32,
     pub tx_capacity: u32,
     pub limit: u32,
@@ -39,7 +39,7 @@ pub struct CConfig {
     pub data_bitrate: u32,
 }
 
-/// A filter, as struct can_filter of linux/can.h.
+/// A filter, with the layout of struct can_filter in linux/can.h.
 #[repr(C)]
 #[derive(Debug, Clone, Copy, Drop)]
 pub struct CFilter {
@@ -47,7 +47,7 @@ pub struct CFilter {
     pub mask: u32,
 }
 
-/// The counts of a closed socket: items that nobody took, and items that were dropped because the queue was full.
+/// The counts of a closed socket: items that were never taken, and items that were dropped because the queue was full.
 #[repr(C)]
 #[derive(Debug, Clone, Copy, Drop)]
 pub struct CClosed {

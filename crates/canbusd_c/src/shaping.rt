@@ -1,4 +1,4 @@
-//! Converts between the structs of C and the types of the bus.
+//! Converts between the C structs and the types of the bus.
 ghost use Rattle.std.specs.Prelude.{◌≡◌, ◌≤◌, length, take, option_map};
 ghost use Rattle.canbusd_c.specs.Shapes.{id_of_word, classic_of_struct, frame_of_struct, fd_of_struct, frame_of_struct_with, padded_to_64, frame_out, error_out, item_frame, item_out, no_frame_struct, class_out, tried_out, option_of_numbers, state_out, status_out, stats_out, load_out};
 

@@ -26,7 +26,7 @@ pub fn set_to(mut schedule: Schedule, moment: Moment) -> Schedule
     schedule
 }
 
-/// Returns the moment of the next attempt. The attempt tries this frame, if there is one. `waits` is whether an interface is
+/// Returns the moment of the next attempt. The attempt tries this frame, if there is one. `waits` is true if an interface is
 /// waiting for its restart; it matters only without a frame.
 pub fn moment_on(schedule: &Schedule, waits: bool, head: Option<(Iface, Frame)>) -> Moment
     ensures { result ≡ moment_on waits head schedule.now }
@@ -38,8 +38,8 @@ pub fn moment_on(schedule: &Schedule, waits: bool, head: Option<(Iface, Frame)>)
     }
 }
 
-/// Notes in a schedule the outcome of an attempt that had this verdict. `waits` is whether an interface was waiting for its restart
-/// before the attempt.
+/// Stores in a schedule the outcome of an attempt that had this verdict. `waits` is true if an interface was waiting for its
+/// restart before the attempt.
 pub fn note_attempt(schedule: &mut Schedule, waits: bool, verdict: Verdict, attempt: &Attempt)
     ensures { schedule.new ≡ schedule_after waits verdict attempt.now schedule.old }
 {
@@ -50,7 +50,8 @@ pub fn note_attempt(schedule: &mut Schedule, waits: bool, verdict: Verdict, atte
     }
 }
 
-/// Returns the load of the wire: its share of the last whole second before a moment, and its total busy time.
+/// Returns the load of the wire: the share of the last whole second before a moment in which the wire was busy, and the total busy
+/// time.
 pub fn load_at(schedule: &Schedule, moment: Moment) -> BusLoad
     ensures { result ≡ shown_at moment schedule.now }
 {

@@ -15,7 +15,7 @@ use Rattle.canbusd_options.specs.BusWords.{first_name_of}
 use Rattle.canbusd_io.specs.declared.program_error.ProgramError.{ProgramError}
 use Rattle.canbusd_io.specs.declared.program_error.ProgramError.TheVariants as fault
 
--- The bytes that are written to files, and the faults of names, files and scripts that cannot be read or written (own
+-- The bytes that are written to files, and the errors for names, files and scripts that cannot be read or written (own
 -- choice).
 
 -- a text was written to a writer
@@ -26,36 +26,36 @@ Took contents old new text = Appends (contents old) (contents new) text
 abbrev pub log_text : List (List ℕ) → Kept → List ℕ
 log_text names r = joined (log_lines names r.history)
 
--- a fault of reading or of memory
+-- an error in reading, or lack of memory
 abbrev pub IsOfReading : ProgramError → Type 0
 IsOfReading fault.Read = Unit {0}
 IsOfReading fault.NoMemory = Unit {0}
 IsOfReading why = ⊥
 
--- a fault of the file with this path: it cannot be opened or read, or memory was refused
+-- an error for the file with this path: it cannot be opened or read, or memory was refused
 abbrev pub IsOfFile : List ℕ → ProgramError → Type 0
 IsOfFile path (fault.CannotOpen named) = named.now ≡ path
 IsOfFile path why = IsOfReading why
 
--- a fault of writing or of memory
+-- an error in writing, or lack of memory
 abbrev pub IsOfWriting : ProgramError → Type 0
 IsOfWriting fault.Write = Unit {0}
 IsOfWriting fault.NoMemory = Unit {0}
 IsOfWriting why = ⊥
 
--- a fault of a record's file with this path: it cannot be opened or written, or memory was refused
+-- an error for a record's file with this path: it cannot be opened or written, or memory was refused
 abbrev pub IsOfRecordFile : List ℕ → ProgramError → Type 0
 IsOfRecordFile path (fault.CannotOpen named) = named.now ≡ path
 IsOfRecordFile path why = IsOfWriting why
 
--- a fault of names: a bus may not have these names; or it may have them, but memory was refused
+-- an error in the names: a bus may not have these names, or memory was refused although it may have them
 abbrev pub IsOfNames : List ℕ → ProgramError → Type 0
 IsOfNames text fault.BadNames = AreNames (names_in text) → ⊥
 IsOfNames text fault.NoMemory = AreNames (names_in text)
 IsOfNames text why = ⊥
 
--- a fault of the log of a bus, whose file has this path: the file cannot be opened, the log cannot be written, or the
--- names are at fault
+-- an error for the log of a bus, whose file has this path: the file cannot be opened, the log cannot be written, or the
+-- names are invalid
 abbrev pub IsOfLogFile : BusWord → List ℕ → ProgramError → Type 0
 IsOfLogFile bus path (fault.CannotOpen named) = named.now ≡ path
 IsOfLogFile bus path (fault.Log name lines) = name.now ≡ first_name_of bus.names.now
@@ -66,29 +66,29 @@ abbrev pub script_fault_of : PlanError → ProgramError
 script_fault_of (plan.Script script.NoMemory) = fault.NoMemory
 script_fault_of why = fault.Script why
 
--- the fault of a text that spells no faults for a bus with these names
+-- the error for a text that spells no faults for a bus with these names
 abbrev pub IsOfScript : List (List ℕ) → List ℕ → ProgramError → Type 0
 IsOfScript names text why = (error : PlanError) × (why ≡ script_fault_of error) × ReadsPlan names text (Err error)
 
--- a fault of a script: of the file with this path, or of a text that the file may hold
+-- an error for a script: for the file with this path, or for a text that the file may contain
 abbrev pub IsOfScriptFile : List ℕ → List (List ℕ) → ProgramError → Type 0
 IsOfScriptFile path names why = IsOfFile path why ⊎ ((text : List ℕ) × IsOfScript names text why)
 
--- a fault of the script of a bus; there is no fault if no script is named
+-- an error for the script of a bus; there is no error if no script is named
 abbrev pub IsOfPlan : Option (Bor (List ℕ)) → List (List ℕ) → ProgramError → Type 0
 IsOfPlan None names why = ⊥
 IsOfPlan (Some path) names why = IsOfScriptFile path.now names why
 
--- the fault of a text that spells no run faults for a bus with these names
+-- the error for a text that spells no run faults for a bus with these names
 abbrev pub IsOfRunText : List (List ℕ) → List ℕ → ProgramError → Type 0
 IsOfRunText names text why =
     (error : PlanError) × (why ≡ script_fault_of error) × ReadsRunFaults names text (Err error)
 
--- a fault of the file with this path, which has a run's faults, or of a text that the file may hold
+-- an error for the file with this path, which should contain a run's faults, or for a text that the file may contain
 abbrev pub IsOfRunFile : List ℕ → List (List ℕ) → ProgramError → Type 0
 IsOfRunFile path names why = IsOfFile path why ⊎ ((text : List ℕ) × IsOfRunText names text why)
 
--- an error in the faults of a run that a word names: in the names of the word, or else in its file
+-- an error in the `NAMES@FILE` argument for the faults of a run: in its names, or else in its file
 abbrev pub IsOfFaults : FaultsWord → ProgramError → Type 0
 IsOfFaults word why =
     IsOfNames word.names.now why

@@ -1,4 +1,4 @@
-//! Builds a bus from its description on the command line: the faults and the configuration.
+//! Builds a bus from its description on the command line: its faults and its configuration.
 ghost use Rattle.std.specs.Prelude.{◌≡◌, ◌≤◌, length, IfErr, IfOk, Ok};
 ghost use Rattle.can_frame.specs.Names.{names_in};
 ghost use Rattle.can_rules.specs.Plans.{ReadsPlan};
@@ -18,7 +18,7 @@ use std::alloc::{AllocError, Global};
 use std::rt::Files;
 
 /// Reads the faults of a bus with these names, and returns them with the text of their script. If the BUS argument names no script,
-/// there are no faults and the text is empty.
+/// there are no faults and the returned text is empty.
 pub fn read_plan<'a, H: Files>(
     rt: &H,
     alloc: Global,
@@ -38,7 +38,7 @@ pub fn read_plan<'a, H: Files>(
 /// The faults that a bus had in a run.
 #[derive(Drop)]
 pub struct KnownFaults {
-    /// The number of interfaces of the bus. All of them have names.
+    /// The number of interfaces of the bus. Every interface has a name.
     pub ifaces: u8,
     /// The faults.
     pub faults: RunFaults,
@@ -87,7 +87,8 @@ fn first_ifaces(count: u8) -> IfaceSet
     IfaceSet(((1_u32 << count) - 1) as u16)
 }
 
-/// Returns a note on the first option whose value is out of range, or an empty text. `most` is the largest value of `--limit`.
+/// Returns a note on the first option whose value is out of range, or an empty string if there is none. `most` is the largest value
+/// of `--limit`.
 pub fn limits_note(alloc: Global, settings: &BusSettings, most: u32) -> Result<String, AllocError> {
     let limits = [
         ("txqueue", settings.tx_capacity, 1, MAX_TX_CAPACITY),

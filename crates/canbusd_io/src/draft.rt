@@ -1,5 +1,5 @@
-//! Files that are written under a temporary name and get their own name once they are complete. Until then, the file of an earlier
-//! run stays unchanged.
+//! Files that are written under a temporary name and are renamed once they are complete. Until then, the file of an earlier run
+//! stays unchanged.
 use crate::files::open_failure;
 use crate::report::Report;
 use crate::shown::Shown;
@@ -73,13 +73,13 @@ impl Draft {
         &self.draft
     }
 
-    /// Returns the path to which the draft of a run that was cut off is moved.
+    /// Returns the path to which the draft is moved if it is left over from a run that was cut off.
     pub fn aside(&self) -> &str {
         &self.aside
     }
 
-    /// Removes a draft that an earlier run or another program has left, unless the file is written directly. If the draft is a
-    /// symbolic link, the link itself is removed.
+    /// Removes a draft that an earlier run or another program has left behind, unless the file is written directly. If the draft is
+    /// a symbolic link, the link itself is removed.
     pub fn clear<H: Files>(&self, rt: &H) {
         if self.is_apart() {
             let _ = fs::remove_file(rt, &self.draft);
@@ -143,7 +143,7 @@ impl Draft {
         }
     }
 
-    /// Checks the same as `look` for a file that must be readable after it is written. A FIFO is refused.
+    /// Does the same check as `look`, for a file that must be readable after it is written. A FIFO is refused.
     pub fn look_for_record<H: Files>(&self, rt: &H) -> io::Result<()> {
         let is_fifo = match fs::metadata(rt, &self.path) {
             Ok(found) => found.file_type().is_fifo(),
@@ -155,7 +155,7 @@ impl Draft {
         self.look(rt)
     }
 
-    /// Creates the draft, replaces any older draft, and opens it for appending.
+    /// Creates the draft, replacing any older draft, and opens it for appending.
     pub fn make<H: Files<File = File>>(&self, rt: &H) -> io::Result<File> {
         if !self.is_apart() {
             return fs::create(rt, &self.path);
@@ -167,7 +167,7 @@ impl Draft {
             .open(rt, &self.draft)
     }
 
-    /// Gives a complete file its own name. A file that is not complete is removed.
+    /// Renames a complete file to its final name. A file that is not complete is removed.
     pub fn keep<'a, H: Files>(
         &'a self,
         rt: &H,
@@ -183,8 +183,8 @@ impl Draft {
         }
     }
 
-    /// Gives a file its own name, even if only its first part was written. If the file is incomplete and another file already has
-    /// that name, the part keeps the draft's name.
+    /// Renames a file to its final name, even if only its first part was written. If the file is incomplete and another file
+    /// already has that name, the part keeps the draft's name.
     pub fn keep_part<'a, H: Files>(
         &'a self,
         rt: &H,
@@ -218,7 +218,7 @@ impl Draft {
             .map_err(|error| open_failure(alloc, &self.path, &error))
     }
 
-    /// Gives the file its own name.
+    /// Renames the draft to the file's final name.
     pub fn take_name<H: Files>(&self, rt: &H) -> io::Result<()> {
         if !self.is_apart() {
             return Ok(());

@@ -1,4 +1,4 @@
-//! Functions that read files. No contract says what bytes a file has.
+//! Functions that read files. No contract says what bytes a file contains.
 ghost use Rattle.std.specs.Prelude.{◌≡◌, IfErr};
 ghost use Rattle.canbusd_io.specs.declared.program_error.ProgramError.TheVariants as fault;
 ghost use Rattle.canbusd_io.specs.Files.{IsOfFile, IsOfReading};
@@ -14,10 +14,10 @@ use std::fs;
 use std::io::{Error, ErrorKind, Read};
 use std::rt::Files;
 
-/// The name that reports use for standard input.
+/// The name of standard input in error reports.
 pub const INPUT: &str = "standard input";
 
-/// The name that reports use for standard output.
+/// The name of standard output in error reports.
 pub const OUTPUT: &str = "standard output";
 
 /// Opens the file with this path. It can be read at most 16,777,216 times.
@@ -34,7 +34,7 @@ pub fn open_file<'a, H: Files>(
     }
 }
 
-/// Returns the text of the file with this path.
+/// Returns the contents of the file with this path as text.
 pub(crate) fn read_file<'a, H: Files>(
     rt: &H,
     alloc: Global,
@@ -88,7 +88,7 @@ pub fn utf8_note(
     format!(in alloc; "  {line}\n  this line is no UTF-8 text\n")
 }
 
-/// Returns the report of a file or stream that could not be opened.
+/// Returns the report for a file or stream that could not be opened.
 pub(crate) fn open_failure<'a>(alloc: Global, path: &'a str, error: &Error) -> Report<'a>
     ensures { result.error ≡ fault.CannotOpen path.entry }
 {
@@ -99,7 +99,7 @@ pub(crate) fn open_failure<'a>(alloc: Global, path: &'a str, error: &Error) -> R
     )
 }
 
-/// Returns the report of an error in reading a file or stream.
+/// Returns the report for an error in reading a file or stream.
 pub fn read_failure<'a>(alloc: Global, place: &str, error: &Error) -> Report<'a>
     ensures { IsOfReading result.error }
 {
@@ -110,7 +110,7 @@ pub fn read_failure<'a>(alloc: Global, place: &str, error: &Error) -> Report<'a>
     }
 }
 
-/// Returns the report of an error in writing a file or stream.
+/// Returns the report for an error in writing a file or stream.
 pub fn write_failure<'a>(alloc: Global, place: &str, error: &Error) -> Report<'a>
     ensures { result.error ≡ fault.Write }
 {

@@ -1,12 +1,10 @@
-//! The files that the program reads and writes, such as scripts of faults, records and logs, and the texts of its errors.
-//!
+//! The files that the program reads and writes, such as scripts of faults, records and logs, and the program's error messages.
 //! `read_names`, `read_plan` and `bus_config` build a bus from its description on the command line. `read_faults` reads the faults
 //! that a bus had in a run. `save_record` and `save_log` write the files of a run. If a command line could not be carried out, the
-//! result is a `Report`: a `ProgramError` and the notes that follow its text.
-//!
-//! Four facts are proved here. The configuration is that of the settings. The faults of a script are spelled by some text for the
-//! names of the bus. A file gets the record's text or the lines of its log. A report contains the error that it was made with. No
-//! contract says what bytes a file has. Tests show that only printable ASCII characters of a file or a client are shown.
+//! result is a `Report`: a `ProgramError` and the notes that follow its message. Four properties are proved here. The configuration
+//! is the one that the settings define. The faults of a script are spelled by some text for the names of the bus. The record's
+//! text, or the lines of its log, are written to the file. A report contains the error for which it was made. No contract says what
+//! bytes a file contains. Tests show that only printable ASCII characters from a file or a client are shown.
 #![tactic(auto)]
 
 mod buses;

@@ -1,4 +1,4 @@
-//! Readers with a limited number of reads, so that no input is read forever.
+//! Readers with a limited number of reads, so that no input is read indefinitely.
 
 use can_session::lines::LONGEST_INPUT;
 use std::alloc::Global;
@@ -8,7 +8,7 @@ use std::io::{Error, ErrorKind, Read};
 /// The largest number of reads of a file. The last read finds the end of the file.
 pub(crate) const MOST_READS: u32 = LONGEST_INPUT as u32;
 
-/// A reader that can be read at most `most` times. One more read is an error, and the text of the error contains this number.
+/// A reader that can be read at most `most` times. One more read is an error, and the error message contains this number.
 #[derive(Drop)]
 pub struct LimitedReads<R> {
     reader: R,
@@ -18,7 +18,7 @@ pub struct LimitedReads<R> {
 }
 
 impl<R> LimitedReads<R> {
-    /// Returns the reader before its first read.
+    /// Returns a reader that has not been read yet.
     pub fn new(alloc: Global, reader: R, most: u32) -> LimitedReads<R> {
         LimitedReads {
             reader,
@@ -39,7 +39,7 @@ impl<R: Read> Read for LimitedReads<R> {
     }
 }
 
-// Returns the error of a read beyond the limit.
+// Returns the error for a read beyond the limit.
 fn too_many(alloc: Global, most: u32) -> Error {
     match format!(in alloc; "it is not read in {most} reads") {
         Ok(words) => Error::other(&words),

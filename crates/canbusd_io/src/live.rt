@@ -1,4 +1,4 @@
-//! The record and the log of a bus that are written while a server runs.
+//! The record and the log of a bus, which are written while a server runs.
 ghost use Rattle.std.specs.Prelude.{◌≡◌, ◌++◌, [], None, All, IfOk, IsOk, IsSome, OnErr, OnOk, reverse};
 ghost use Rattle.can_logfile.specs.Log.{joined, log_lines};
 ghost use Rattle.can_record_text.specs.Spelling.{end_words, entry_lines, front_lines, spell};
@@ -26,25 +26,25 @@ use std::io::{Error, ErrorKind, Write};
 use std::rt::Files;
 use std::snapshot::Snapshot;
 
-/// A record or log of a bus that gets lines while a server runs. It is first written as a draft.
+/// A record or log of a bus to which lines are added while a server runs. It is first written as a draft.
 #[derive(Drop)]
 pub struct LiveText<F: Write + OpenFile + Drop, B: Drop> {
     draft: Draft,
-    /// The configuration of the bus for a record, or the names of the bus for a log. The lines are written with it.
+    /// The configuration of the bus for a record, or the names of the bus for a log. The lines are written in terms of it.
     pub bus: B,
     pub file: LiveFile<F>,
-    /// The file before its first line. Only contracts see it, and it takes no memory.
+    /// The file before its first line. Only contracts see this value, and it takes no memory.
     pub start: Snapshot<LiveFile<F>>,
 }
 
-/// The record of a bus, which gets a line for each entry. The file gets its own name once it is complete.
+/// The record of a bus, with a line for each entry. The file is renamed to its final name once it is complete.
 pub type LiveRecord<F> = LiveText<F, BusConfig>;
 
-/// The log of a bus, which gets a line for each frame that was tried.
+/// The log of a bus, with a line for each frame that was tried.
 pub type LiveLog<F> = LiveText<F, Names>;
 
 impl<F: Write + OpenFile + Drop, B: Drop> LiveText<F, B> {
-    // Returns a text in an empty file. Errors name the file by this path.
+    // Returns a text in an empty file. Error messages name the file by this path.
     fn begin(
         alloc: Global,
         draft: Draft,
@@ -67,19 +67,19 @@ impl<F: Write + OpenFile + Drop, B: Drop> LiveText<F, B> {
         })
     }
 
-    /// Returns the path by which errors name the file.
+    /// Returns the path that names the file in error messages.
     pub fn path(&self) -> &str {
         &self.file.path
     }
 
-    /// Removes the draft of the file, unless the file already has its own name.
+    /// Removes the draft of the file, unless it was already renamed to its final name.
     pub fn remove<H: Files>(&self, rt: &H) {
         self.draft.clear(rt);
     }
 }
 
 impl<B: Drop> LiveText<File, B> {
-    // Creates the file of a text that has no lines yet.
+    // Creates the file for a text that has no lines yet.
     fn make<H: Files<File = File>>(
         rt: &H,
         alloc: Global,
@@ -156,7 +156,7 @@ impl<F: Write + OpenFile + Drop> LiveText<F, BusConfig> {
         }
     }
 
-    /// Writes the lines of the next entries. After a fault the file gets no more lines, and the fault is reported only once.
+    /// Writes the lines of the next entries. After a write error no more lines are written, and the error is reported only once.
     pub fn keep(&mut self, alloc: Global, entries: &PackedRecord) -> Result<(), Report<'static>>
         requires { All HasFittingReply entries.now.entries }
         ensures lines { TakesText (whole_contents F.contents) self.old.file.out self.new.file.out
@@ -172,8 +172,8 @@ impl<F: Write + OpenFile + Drop> LiveText<F, BusConfig> {
         self.settle(alloc, put)
     }
 
-    /// Writes the lines of the last entries and the end line, which says that there are `count` entries. Then it gives the file and
-    /// the run's faults their own names. If the file had a fault, neither gets its name.
+    /// Writes the lines of the last entries and the end line, which says that there are `count` entries. Then it renames the file
+    /// and the file of the run's faults to their final names. If the file had a write error, neither is renamed.
     pub fn finish<H: Files>(
         &mut self,
         rt: &H,
@@ -221,7 +221,7 @@ impl<F: Write + OpenFile + Drop> LiveText<F, BusConfig> {
         self.settle(alloc, put)
     }
 
-    // Gives the file and the run's faults their own names.
+    // Renames the file and the file of the run's faults to their final names.
     fn name_both<H: Files>(
         &self,
         rt: &H,
@@ -269,7 +269,7 @@ fn entries_note(alloc: Global, entries: u64) -> Result<String, AllocError> {
     format!(in alloc; "  it has the first {entries} entries, and no end\n")
 }
 
-// Removes the file of a start that failed and returns the error.
+// Removes the file of a text that could not be begun, and returns the error.
 fn removed<H: Files>(rt: &H, draft: &Draft, error: Error) -> Error
     ensures { result ≡ error }
 {
@@ -278,13 +278,13 @@ fn removed<H: Files>(rt: &H, draft: &Draft, error: Error) -> Error
 }
 
 impl<F: Write + OpenFile + Drop> LiveText<F, Names> {
-    /// Gives the file its own name. It replaces the log of an earlier run.
+    /// Renames the file to its final name. It replaces the log of an earlier run.
     pub fn take_name<H: Files>(&self, rt: &H) -> io::Result<()> {
         self.draft.take_name(rt)
     }
 
-    /// Writes the lines of the next entries. After a fault the file gets no more lines, and the fault is reported only once. The
-    /// report calls the log by `name`.
+    /// Writes the lines of the next entries. After a write error no more lines are written, and the error is reported only once.
+    /// The report calls the log by `name`.
     pub fn keep<'a>(
         &mut self,
         alloc: Global,

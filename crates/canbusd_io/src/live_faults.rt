@@ -1,4 +1,4 @@
-//! The faults of a bus in a run, in a file next to its record.
+//! The faults of a bus in a run, which are written to a file next to the bus's record.
 use crate::draft::Draft;
 use crate::files::write_failure;
 use crate::live_file::{LiveFile, Remains};
@@ -10,15 +10,15 @@ use std::io::{Error, ErrorKind, Write};
 use std::rt::Files;
 
 /// The faults of a bus in a run, which an audit can read. They consist of the script at the start and a line for each rule that was
-/// added or removed later. The file is written as a draft and gets its own name after the record. A run without faults has no such
-/// file. If a line were missing, later attempts would be assigned to the wrong rule, so the first write that fails leaves the file
-/// empty.
+/// added or removed later. The file is written as a draft and is renamed to its final name after the record. A run without faults
+/// has no such file. If a line were missing, an audit would assign later attempts to the wrong rule. So the first write that fails
+/// leaves the file empty.
 #[derive(Drop)]
 pub struct LiveFaults {
     draft: Draft,
     script: String,
     is_synced: bool,
-    // The file, after it was created. It then contains the script.
+    // The file, once it was created. It then begins with the script.
     file: Option<LiveFile<File>>,
     has_fault: bool,
 }
@@ -54,7 +54,7 @@ impl LiveFaults {
         Ok(())
     }
 
-    /// Writes the next lines. After a fault the file gets no more lines, and the fault is reported only once.
+    /// Writes the next lines. After a write error no more lines are written, and the error is reported only once.
     pub fn keep(&mut self, alloc: Global, lines: &[u8]) -> Result<(), Report<'static>> {
         if self.has_fault || lines.is_empty() {
             return Ok(());
@@ -80,7 +80,7 @@ impl LiveFaults {
         self.keep(alloc, lines)
     }
 
-    // Returns the report of a failed write. After a failure the file gets no more lines.
+    // Returns the report for a failed write. After a failure no more lines are written to the file.
     fn checked(&mut self, alloc: Global, kept: io::Result<()>) -> Result<(), Report<'static>> {
         match kept {
             Ok(()) => Ok(()),
@@ -91,18 +91,18 @@ impl LiveFaults {
         }
     }
 
-    /// Notes that lines were lost. The file then gets no more lines.
+    /// Notes that lines were lost. No more lines are written to the file.
     pub fn give_up(&mut self) {
         self.has_fault = true;
     }
 
-    /// Removes the file of an earlier run. Callers do this before the record gets its own name. If the server is killed in between,
-    /// no record is left next to the faults of another run.
+    /// Removes the file of an earlier run. Callers do this before the record gets its final name. If the server is killed in
+    /// between, no record is left next to the faults of another run.
     pub fn make_way<H: Files>(&self, rt: &H) {
         self.draft.remove_older(rt);
     }
 
-    /// Gives the file its own name after the record has got its name. If the run had no faults or lines were lost, the file is
+    /// Renames the file to its final name after the record was renamed. If the run had no faults or lines were lost, the file is
     /// removed.
     pub fn finish<H: Files>(&self, rt: &H, alloc: Global) -> Result<(), Report<'static>> {
         if self.has_fault || !matches!(&self.file, Some(file) if file.has_lines()) {
@@ -144,7 +144,7 @@ fn begun<H: Files<File = File>>(
     Ok(live)
 }
 
-// Writes lines and flushes them. After a fault, the file is cut to zero length and gets no more lines.
+// Writes lines and flushes them. After a write error, the file is truncated to zero length and no more lines are written.
 fn put_lines(file: &mut LiveFile<File>, lines: &[u8]) -> io::Result<()> {
     let Some(out) = &mut file.out else {
         return Ok(());

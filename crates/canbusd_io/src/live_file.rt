@@ -1,4 +1,4 @@
-//! Files that get lines while a server runs.
+//! Files to which lines are added while a server runs.
 ghost use Rattle.std.specs.Prelude.{◌≡◌, None, IfOk, IsOk, OnErr, OnOk};
 ghost use Rattle.canbusd_io.specs.Live.{Begins, Stays, whole_contents};
 
@@ -11,28 +11,28 @@ use std::io::{BufWriter, Error, Write};
 /// The largest number of bytes in one write.
 const BLOCK: usize = 65_536;
 
-/// The part of a file that is kept after a fault.
+/// The part of a file that is kept after a write error.
 #[derive(Debug, Clone, Copy, PartialEq, Eq)]
 pub enum Remains {
-    /// Its whole lines.
+    /// The complete lines are kept.
     WholeLines,
-    /// Nothing, because the file would be misleading if a line were missing.
+    /// Nothing is kept, because the file would be misleading if a line were missing.
     Nothing,
 }
 
-/// A file that gets lines while a server runs. After its first fault, the file is cut to the part that is kept and gets no more
-/// lines.
+/// A file to which lines are added while a server runs. After its first write error, the file is truncated to the part that is
+/// kept, and no more lines are written.
 #[derive(Drop)]
 pub struct LiveFile<F: Write + OpenFile + Drop> {
     pub path: String,
     remains: Remains,
     /// Whether each flush waits until all lines are on the disk.
     pub is_synced: bool,
-    /// The writer of the file's lines, or `None` after a fault.
+    /// The writer for the file's lines, or `None` after a write error.
     pub out: Option<BufWriter<WholeLines<F>>>,
 }
 
-/// The error that ended a file, and the number of complete lines in the file.
+/// The error that ended a file, and how many complete lines the file contains.
 #[derive(Drop)]
 pub struct FileOver {
     pub whole_lines: u64,
@@ -60,12 +60,12 @@ impl<F: Write + OpenFile + Drop> LiveFile<F> {
         })
     }
 
-    /// Returns whether the file has lines and had no fault.
+    /// Returns whether the file has lines and had no write error.
     pub fn has_lines(&self) -> bool {
         matches!(&self.out, Some(out) if out.get_ref().lines > 0)
     }
 
-    /// Flushes the lines after a write with the outcome `put`. If the write or the flush failed, the file gets no more lines.
+    /// Flushes the lines after a write with the outcome `put`. If the write or the flush failed, no more lines are written.
     pub fn settle(&mut self, put: io::Result<()>) -> Result<(), FileOver>
         ensures put { OnOk result (IsOk put) }
         ensures stays { OnOk result (Stays (whole_contents F.contents) self.old.out self.new.out) }
@@ -104,7 +104,7 @@ impl<F: Write + OpenFile + Drop> LiveFile<F> {
         }
     }
 
-    // Ends the file. The reason is the error of the last write, if there was one, and otherwise `error`.
+    // Ends the file. The reason is the error of the last failed write, if there was one, and otherwise `error`.
     fn end(&mut self, error: Error) -> FileOver
         ensures { self.new.out ≡ None }
     {

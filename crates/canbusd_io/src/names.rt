@@ -1,4 +1,4 @@
-//! Reads the names of a bus's interfaces, which are given joined by commas.
+//! Reads the names of a bus's interfaces, which are separated by commas.
 ghost use Rattle.std.specs.Prelude.{◌≡◌, IfErr, IfOk, OnOk};
 ghost use Rattle.can_frame.specs.Names.{AreNames, names_in};
 ghost use Rattle.canbusd_io.specs.Files.{IsOfNames};
@@ -26,7 +26,7 @@ pub fn read_names<'a>(alloc: Global, names: &str) -> Result<Names, Report<'a>>
     })
 }
 
-// Returns a note on the name that is wrong or given twice, or on the number of names if there are too many.
+// Returns a note on the name that is invalid or given twice, or on the number of names if there are too many.
 fn names_note(alloc: Global, names: &str) -> Result<String, AllocError> {
     let count = names.split(',').count();
     if count > 16 {

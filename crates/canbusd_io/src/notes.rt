@@ -1,4 +1,4 @@
-//! The notes that follow an error's text. They say what was wrong, where, and how to correct it. Each note begins with two spaces.
+//! The notes that follow an error message. They say what was wrong, where, and how to correct it. Each note begins with two spaces.
 //! A note is left out if there is no memory for it.
 use crate::shown::Shown;
 use std::alloc::{AllocError, Global};
@@ -7,7 +7,7 @@ use std::io::Error;
 /// The note on a line that ends with CR and LF.
 pub const WITH_CR: &str = "this line ends with CR and LF: lines end with only LF";
 
-/// Returns a note with this fixed text.
+/// Returns a note with this fixed wording.
 pub fn fixed_note(alloc: Global, note: &str) -> Result<String, AllocError> {
     format!(in alloc; "  {note}\n")
 }
@@ -18,7 +18,7 @@ pub fn reason_note(alloc: Global, place: &str, error: &Error) -> Result<String, 
     format!(in alloc; "  {place}: {error}\n")
 }
 
-/// Returns the line with this number, counted from 1. After its last LF, a text has an empty line.
+/// Returns the line with this number, counted from 1. If the text ends with LF, its last line is empty.
 pub(crate) fn line_of(text: &str, number: usize) -> &str {
     let place = number.saturating_sub(1);
     text.split('\n').nth(place).unwrap_or("")

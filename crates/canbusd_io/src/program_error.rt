@@ -4,7 +4,7 @@ use can_rules::PlanError;
 use can_session::BenchFault;
 use thiserror::Error;
 
-/// The reason why a command line was not carried out. The program prints its text.
+/// The reason why a command line was not carried out. The program prints its error message.
 #[derive(Debug, Clone, Copy, PartialEq, Eq, Error)]
 pub enum ProgramError<'a> {
     /// The names are not valid for the interfaces of a bus.
@@ -20,7 +20,7 @@ pub enum ProgramError<'a> {
     Script(PlanError),
     #[error("{0}")]
     Bench(BenchFault),
-    /// A message of a session was refused in a strict run of the bench.
+    /// A message from a session was refused in a strict run of the bench.
     #[error("message refused")]
     Refused,
     /// No server can have these buses.
@@ -28,15 +28,15 @@ pub enum ProgramError<'a> {
     Buses(BusFault),
     #[error("cannot listen")]
     CannotListen,
-    /// The bus with this first name got back a pass of another bus.
+    /// The bus with this first name was given back a pass of another bus.
     #[error("bus {0}: wrong station")]
     WrongStation(&'a str),
-    /// The log of the bus with this first name has only this many complete lines.
+    /// The log of the bus with this first name contains only this many complete lines.
     #[error("log of {name}: {whole_lines} whole lines")]
     Log { name: &'a str, whole_lines: u64 },
     #[error("{0}")]
     Record(ReadFault),
-    /// The first entry of a record that is not legal, counted from 0.
+    /// The index of the first entry of a record that is not legal, counted from 0.
     #[error("entry {0}: wrong")]
     WrongEntry(usize),
     #[error("write fault")]

@@ -4,7 +4,7 @@ use crate::program_error::ProgramError;
 use std::alloc::{AllocError, Global};
 use std::io::Write;
 
-/// An error of the program and the notes that are printed after its text.
+/// An error of the program and the notes that are printed after its message.
 #[derive(Drop)]
 pub struct Report<'a> {
     pub error: ProgramError<'a>,
@@ -22,7 +22,7 @@ impl<'a> Report<'a> {
         }
     }
 
-    /// Returns a report with notes, or without notes if there was no memory for them.
+    /// Returns a report with notes, or without notes if there is no memory for them.
     pub fn with(
         alloc: Global,
         error: ProgramError<'a>,
@@ -36,7 +36,7 @@ impl<'a> Report<'a> {
         }
     }
 
-    /// Returns the report with one more note, if there is memory for it.
+    /// Returns the report with one more note, if there is memory for the note.
     pub fn and(mut self, note: &str) -> Report<'a>
         ensures { result.error ≡ self.entry.error }
     {
@@ -52,7 +52,7 @@ impl<'a> Report<'a> {
     }
 }
 
-/// Reports errors that end only a part of a job.
+/// Reports errors that stop only a part of a job.
 #[derive(Drop)]
 pub struct Reporter<'e, E: Write> {
     errors: &'e mut E,
@@ -70,7 +70,7 @@ impl<'e, E: Write> Reporter<'e, E> {
         }
     }
 
-    /// Reports the error of a part of a job, if there was an error.
+    /// Reports the error in a part of a job, if there was an error.
     pub fn report(&mut self, outcome: Result<(), Report<'_>>)
         ensures kept { IsTrue self.old.has_reported → IsTrue self.new.has_reported }
         ensures reported { IfErr outcome.entry (λ _. IsTrue self.new.has_reported) }

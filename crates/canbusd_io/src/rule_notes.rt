@@ -1,4 +1,4 @@
-//! Notes on an invalid fault rule, in a script or in a line of the bench.
+//! Notes on an invalid fault rule, in a script or in an input line of the bench.
 use crate::names::read_names;
 use crate::notes::{WITH_CR, fixed_note};
 use crate::shown::Shown;
@@ -6,7 +6,7 @@ use can_rules::{WrongWord, read_later, read_rule};
 use canbusd_options::has_name;
 use std::alloc::{AllocError, Global};
 
-/// Returns a note that says why a rule was not accepted. The names of the bus are given as on the command line.
+/// Returns a note that says why a rule was not accepted. The names of the bus are written as on the command line.
 pub fn rule_note(alloc: Global, rule: &str, bus: &str) -> Result<String, AllocError> {
     if rule.ends_with('\r') {
         return fixed_note(alloc, WITH_CR);
@@ -21,7 +21,7 @@ pub fn rule_note(alloc: Global, rule: &str, bus: &str) -> Result<String, AllocEr
     }
 }
 
-/// Returns a note that says why a line about a later change of the rules was not accepted.
+/// Returns a note that says why a line that changes the rules during a run was not accepted.
 pub(crate) fn later_note(alloc: Global, line: &str, bus: &str) -> Result<String, AllocError> {
     if line.ends_with('\r') {
         return fixed_note(alloc, WITH_CR);
@@ -40,8 +40,8 @@ pub(crate) fn later_note(alloc: Global, line: &str, bus: &str) -> Result<String,
     }
 }
 
-// Returns a note on the first name in a rule that the bus does not have. It looks first at the senders and then at the interfaces
-// that see the fault.
+// Returns a note on the first name in a rule that the bus does not have. It checks the senders first and then the interfaces that
+// see the fault.
 fn unknown_note(alloc: Global, rule: &str, bus: &str) -> Result<String, AllocError> {
     let senders = match rule.split_once(" from ") {
         Some((_, rest)) => rest.split(' ').next().unwrap_or(""),

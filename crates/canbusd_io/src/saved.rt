@@ -1,4 +1,4 @@
-//! The files of a run: the record of a bus and its log. If a run writes no file, a note says so.
+//! The files of a run: the record of a bus and its log. If a run writes no file although it was requested, a note says so.
 ghost use Rattle.std.specs.Prelude.{◌≡◌, ◌-◌, ◌==◌, count_by, IfErr, OnOk};
 ghost use Rattle.can_record_text.specs.Texts.{text_of};
 ghost use Rattle.canbusd_io.specs.declared.program_error.ProgramError.TheVariants as fault;
@@ -50,7 +50,7 @@ pub fn save_record<'a, H: Files>(
     }
 }
 
-/// Writes the text of a record to the file `at`. Errors are reported for `path`, which will be the name of the file.
+/// Writes the text of a record to the file `at`. Errors are reported for `path`, which will be the final name of the file.
 pub fn save_record_at<'a, H: Files>(
     rt: &H,
     alloc: Global,
@@ -69,7 +69,7 @@ pub fn save_record_at<'a, H: Files>(
 }
 
 /// Writes the log of a bus's record to the file with this path. If there is an error, the report says how many complete lines the
-/// file has and calls the log by the first name of the bus.
+/// file contains and calls the log by the first name of the bus.
 pub fn save_log<'a, H: Files>(
     rt: &H,
     alloc: Global,
@@ -82,8 +82,8 @@ pub fn save_log<'a, H: Files>(
     save_log_at(rt, alloc, path, path, bus, record)
 }
 
-/// Writes the log of a bus's record to the file `at`. An error in opening the file is reported for `path`, which will be the name
-/// of the file.
+/// Writes the log of a bus's record to the file `at`. An error in opening the file is reported for `path`, which will be the final
+/// name of the file.
 pub fn save_log_at<'a, H: Files>(
     rt: &H,
     alloc: Global,
@@ -107,8 +107,8 @@ pub fn save_log_at<'a, H: Files>(
     }
 }
 
-/// Adds a note to the error of a run that ended before it wrote its record or its log. No note is added if the run was not asked to
-/// write that file.
+/// Adds a note to the error of a run that stopped before it wrote its record or its log. No note is added if the file was not
+/// requested.
 pub fn without<'a, H: Files>(
     rt: &H,
     alloc: Global,
@@ -178,8 +178,8 @@ fn put_log<W: Write>(names: &Names, record: &Record, file: &mut W) -> Result<(),
     file.flush().map_err(|_| lines)
 }
 
-// Returns the report of an error in writing a log. `lines` is the number of complete lines in a buffer, and `unwritten` are the
-// bytes still in the buffer.
+// Returns the report for an error in writing a log. `lines` is the number of complete lines written so far, including those in a
+// buffer. `unwritten` contains the bytes that are still in the buffer.
 fn log_failure<'a>(alloc: Global, name: &'a str, lines: u64, unwritten: &[u8]) -> Report<'a>
     ensures { result.error ≡ fault.Log name.entry (lines - count_by (λ b. b == 10) unwritten.now) }
 {
@@ -187,7 +187,7 @@ fn log_failure<'a>(alloc: Global, name: &'a str, lines: u64, unwritten: &[u8]) -
     Report::new(alloc, ProgramError::Log { name, whole_lines })
 }
 
-// Returns the report of an error in writing a record.
+// Returns the report for an error in writing a record.
 fn record_failure<'a>(alloc: Global, path: &str, error: &Error) -> Report<'a>
     ensures { IsOfWriting result.error }
 {

@@ -16,7 +16,7 @@ use can_rules::{Plan, PlanError, RunFaults, begins_as_later, begins_as_rule};
 use std::alloc::{AllocError, Global};
 use std::rt::Files;
 
-/// Reads the script at this path for a bus, and returns its faults and its text. The names of the bus are given twice: in `names`,
+/// Reads the script at this path for a bus, and returns its faults and its text. The names of the bus are passed twice: in `names`,
 /// and in `bus` as on the command line.
 pub fn read_script<'a, H: Files>(
     rt: &H,
@@ -33,8 +33,8 @@ pub fn read_script<'a, H: Files>(
     Ok((plan, text))
 }
 
-/// Reads the faults that a bus had in a run. In addition to a script, the file has the rules that were added or removed during the
-/// run.
+/// Reads the faults that a bus had in a run. In addition to a script, the file contains the rules that were added or removed during
+/// the run.
 pub fn read_run_faults<'a, H: Files>(
     rt: &H,
     alloc: Global,
@@ -61,7 +61,7 @@ fn read_script_file<'a, H: Files>(
     read_file(rt, alloc, path).map_err(|failure| failure.and(path_note(path)))
 }
 
-// Returns a note on a likely mistake in the path of a script, or an empty text.
+// Returns a note on a likely mistake in the path of a script, or an empty string.
 fn path_note(path: &str) -> &'static str {
     if path.is_empty() {
         "  the path of a script comes after @\n"
@@ -112,7 +112,7 @@ fn run_faults_in<'a>(
     }
 }
 
-// Returns the report of an error in a script.
+// Returns the report for an error in a script.
 fn script_failure<'a>(
     alloc: Global,
     fault: PlanError,
@@ -189,7 +189,7 @@ fn with_line(
     format!(in alloc; "  {line}\n{note}")
 }
 
-// Returns a note that says why a line that is not a rule is wrong.
+// Returns a note that says why a line is wrong that is not a rule.
 fn numbered_note(
     alloc: Global,
     text: &str,
@@ -226,7 +226,7 @@ fn bad_verdict_note(alloc: Global, line: &str) -> Result<String, AllocError> {
     fixed_note(alloc, verdict_note(verdict))
 }
 
-// Returns the mistake in the words that follow the number of a line and a space.
+// Returns the mistake in the words that follow the number at the start of a line.
 fn verdict_note(verdict: &str) -> &'static str {
     if verdict.starts_with(' ') || verdict.contains("  ") {
         return "words are parted by one space";
@@ -248,7 +248,7 @@ fn verdict_note(verdict: &str) -> &'static str {
     "VERDICT is good, lastbit, global bit, global form, local stuff NAMES, local crc NAMES or local form NAMES"
 }
 
-// Returns whether a line begins with a number that an attempt may have, and a space.
+// Returns whether a line begins with a valid attempt number and a space.
 fn has_number(line: &str) -> bool {
     match line.split_once(' ') {
         Some((number, _)) => {

@@ -5,7 +5,7 @@ use std::fmt;
 /// The largest number of bytes that are shown of a line or a name.
 const MOST_SHOWN: usize = 72;
 
-/// Bytes in a form that is safe for a terminal. A byte that is not printable ASCII is shown as `?`.
+/// Bytes in a form that is safe to print to a terminal. A byte that is not printable ASCII is shown as `?`.
 #[derive(Clone, Copy)]
 pub struct Shown<'a> {
     bytes: &'a [u8],
@@ -13,7 +13,7 @@ pub struct Shown<'a> {
 }
 
 impl<'a> Shown<'a> {
-    /// Shows a whole text.
+    /// Shows a whole string.
     pub fn whole(text: &'a str) -> Shown<'a> {
         Shown {
             bytes: text.as_bytes(),
@@ -43,7 +43,7 @@ impl fmt::Display for Shown<'_> {
     }
 }
 
-// Returns the character of a byte from the space to `~`, and `?` for any other byte.
+// Returns the character for a byte from the space to `~`, and `?` for any other byte.
 fn printable(byte: u8) -> char
     ensures { result ≡ (if nat_le 32 byte && nat_le byte 126 then byte else 63) }
 {
@@ -63,7 +63,7 @@ pub struct SourceLine<'a> {
 }
 
 impl<'a> SourceLine<'a> {
-    /// Returns the line with this number, counted from 1, of a file. It is shown in errors.
+    /// Returns line `number` of a file, counted from 1, in the form that is shown in errors.
     pub fn new(file: &'a str, number: u64, text: &'a [u8]) -> SourceLine<'a> {
         SourceLine { file, number, text }
     }

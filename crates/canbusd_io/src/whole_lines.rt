@@ -1,4 +1,4 @@
-//! A writer that counts the complete lines written, so that a file can be cut after its last complete line if there is a fault.
+//! A writer that counts the complete lines written, so that a file can be truncated after its last complete line if a write fails.
 ghost use Rattle.std.specs.Prelude.{◌≡◌};
 
 use can_frame::count_of;
@@ -9,7 +9,7 @@ use std::io::{Error, Write};
 #[derive(Drop)]
 pub struct WholeLines<F: Write + Drop> {
     pub inner: F,
-    /// The number of complete lines written, and the number of their bytes.
+    /// How many complete lines were written, and how many bytes they have.
     pub lines: u64,
     pub bytes: u64,
     /// The number of bytes written after the last complete line.

@@ -25,7 +25,7 @@ use Rattle.canbusd_serve.specs.contracts.file_keeper.FileKeeper as keeper
 use Rattle.canbusd_serve.specs.contracts.file_keeper.KeptFiles as kept
 use Rattle.canbusd_serve.specs.contracts.file_keeper.KeptFiles.TheInside as kept_inside
 
--- the text of a bus, with the values from which its lines are written
+-- the text of a bus, and the value with which its lines are written
 text_send : (F B : RattleType) → IsSend F → IsSend B → IsSend (text_of.the_row F B)
 text_send F B s b = declared_send (text_of.the_type F B) (draft.the_send, (as_row_send (row_field B) b, (file.the_send F s, (search (sendable, as_row_send) depth 20, tt))))
 
@@ -36,7 +36,7 @@ live_send F s =
     let log : IsSend (text_of.the_row F names_of.the_row) = text_send F names_of.the_row s names.the_send in
     declared_send (live.the_type F) (search (sendable, as_row_send, one) depth 20, (search (sendable, as_row_send, log) depth 20, (search (sendable, as_row_send) depth 20, tt)))
 
--- the files of a bus, with the record of what was given to them
+-- the files of a bus, with the ghost record of the entries that they were given
 pub kept_send : (F : RattleType) (g : write.Ghosts F.Denot) → IsSend F → IsSend (kept.the_row F g)
 kept_send F g s =
     let inside : IsSend (kept_inside.the_row F g) = declared_send (kept_inside.the_type F g) (live_send F s, (given_send, tt)) in

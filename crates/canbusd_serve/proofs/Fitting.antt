@@ -9,7 +9,7 @@ use Rattle.can_bus.proofs.Fitting.{legal_is_spelled}
 use Rattle.can_record_text.specs.inner.StoredLines.{HasFittingReply}
 use Rattle.can_server.specs.Keeping.{AreLegalLast}
 
--- The entries of a legal history have lines.
+-- The entries of a legal history can be written as lines.
 
 legal_fit : (c : BusConfig) (past : List Entry) → IsLegal c past → All HasFittingReply past
 legal_fit c [] legal = All-nil HasFittingReply
@@ -20,7 +20,7 @@ reversed [] all = all
 reversed (e ∷ entries) all =
     subst (All HasFittingReply) (sym (reverse-append (e ∷ []) entries)) (All-push HasFittingReply (reverse entries) e (reversed entries (λ k d low. all (suc k) d (omega (arith, low)))) (all 0 e (omega arith)))
 
--- the last entries of a legal history have lines too
+-- the last entries of a legal history can also be written as lines
 pub rest_fit : (c : BusConfig) (past : List Entry) (start : ℕ) → IsLegal c past → All HasFittingReply (drop start (reverse past))
 rest_fit c past start legal = All-drop HasFittingReply start (reverse past) (reversed past (legal_fit c past legal))
 

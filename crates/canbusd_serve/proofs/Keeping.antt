@@ -21,7 +21,7 @@ use Rattle.can_station.specs.declared.pass.Settled.{Settled}
 use Rattle.canbusd_serve.specs.LongRuns.{AllGiven, AllGivenFirst, AreWhole, HaveLines, IsTextOpen, LogGets, LogStays, RecordGets, RecordStays, TextGets}
 use Rattle.canbusd_serve.specs.declared.live_files.LiveFiles.{LiveFiles}
 
--- The lines in the files of a bus, one block after another.
+-- The lines in the files of a bus, as they are written block by block.
 
 -- the lines of some entries, followed by the lines of more entries
 lines-then : (es more : List Entry) → entry_lines (es ++ more) [] ≡ entry_lines es (entry_lines more [])
@@ -48,7 +48,7 @@ front-then c text more =
     ∙ ap (λ (x : List ℕ). first_line version.Four ++ x)
     (append_assoc (spell (bus_words version.Four c) []) text more ∙ spell-rest (bus_words version.Four c) (text ++ more))
 
--- ---- one text after another
+-- ---- appending one text after another
 
 gets_then : {W : Type 0} (contents : W → Option (List ℕ)) (a b c : Option W) (s t : List ℕ) → MayGet contents a b s → MayGet contents b c t → MayGet contents a c (s ++ t)
 gets_then contents a b None s t f g = tt
@@ -74,7 +74,7 @@ log_then contents a b es more has gets =
     let text = λ (entries : List Entry) (names : List (List ℕ)). joined (log_lines names (reverse entries)) in
     text_then contents (text es) (text more) (text (es ++ more)) a b (λ names. sym (log-lines names es more)) has gets
 
--- files that are open stay open while the record and then the log are written, or a fault is noted
+-- open files remain open while the record and then the log are written, unless a write error is noted
 going_on : {F : Type 0} (a m b : LiveFiles F) → (a.has_fault ≡ false → IsTextOpen a.record × IsTextOpen a.log) → RecordStays a m → m.log ≡ a.log → LogStays m b → b.record ≡ m.record → b.has_fault ≡ false → IsTextOpen b.record × IsTextOpen b.log
 going_on {F} a m b going record_stays same_log log_stays same_record none =
     let after = log_stays none in
@@ -82,7 +82,8 @@ going_on {F} a m b going record_stays same_log log_stays same_record none =
     let was = going before.0 in
     (subst (λ (r : Option (LiveText F BusConfig)). IsTextOpen r) (sym same_record) (before.1 was.0), after.1 (subst (λ (l : Option (LiveText F (List (List ℕ)))). IsTextOpen l) (sym same_log) was.1))
 
--- files that have the lines of some entries, and get the lines of more entries, have the lines of all of them
+-- if files contain the lines of some entries, and the lines of more entries are appended, they contain the lines of all
+-- these entries
 have_then : {F : Type 0} (contents : F → Option (List ℕ)) (a b : LiveFiles F) (es more : List Entry) → HaveLines contents es a → RecordGets contents a.record (entry_lines more []) b.record → LogGets contents a.log more b.log
     → (b.has_fault ≡ false → IsTextOpen b.record × IsTextOpen b.log) → HaveLines contents (es ++ more) b
 have_then contents a b es more have record_gets log_gets going = record {
@@ -101,11 +102,11 @@ have_after {F} contents a m b es more given have record_gets record_stays same_l
 
 -- ---- the end
 
--- the entries handed out and those held back are the whole history
+-- the entries handed out and the entries held back are together the whole history
 whole_history : (j : LongJournal) → handed_entries j ++ held_back j ≡ reverse j.history
 whole_history j = take-append-drop j.handed (reverse j.history)
 
--- the lines of these entries, with the last line, are those of the whole history
+-- the lines of these entries, with the last line, are the lines of the whole history
 end-lines : (es more whole : List Entry) (count : ℕ) → es ++ more ≡ whole → count ≡ length whole
     → entry_lines es [] ++ (entry_lines more [] ++ spell (end_words count) []) ≡ entry_lines whole (spell (end_words (length whole)) [])
 end-lines es more whole count is counted =
@@ -114,8 +115,8 @@ end-lines es more whole count is counted =
     ∙ lines-rest whole (spell (end_words count) [])
     ∙ ap (λ (n : ℕ). entry_lines whole (spell (end_words n) [])) counted
 
--- files that have the entries that a bus handed out, and get the entries that it held back and the last line, have its
--- whole history
+-- files with the entries that a bus handed out contain its whole history once the entries held back and the last line
+-- are appended
 whole_then : {F : Type 0} (contents : F → Option (List ℕ)) (j : LongJournal) (a b : LiveFiles F) (count : ℕ) → HaveLines contents (handed_entries j) a → count ≡ length j.history
     → RecordGets contents a.record (entry_lines (held_back j) [] ++ spell (end_words count) []) b.record → LogGets contents a.log (held_back j) b.log
     → (b.has_fault ≡ false → IsTextOpen b.record × IsTextOpen b.log) → AreWhole contents (reverse j.history) b
@@ -141,7 +142,8 @@ whole_after {F} contents j a m b rest count have is counted record_gets record_s
 
 -- ---- all buses
 
--- the entries given to files are those handed out to their scrolls, which are those handed out of the histories
+-- the entries given to the files are the entries handed out to the scrolls, which are the entries handed out of the
+-- histories
 pub given_first : {F L : Type 0} (contents : F → Option (List ℕ)) (handed : L → List Entry) (files : List (LiveFiles F)) (scrolls : List ScrollSeen) (settled : List (Settled L)) → AllGiven contents files scrolls → AllHanded handed scrolls settled
     → AllGivenFirst contents handed files settled
 given_first contents handed [] [] [] given same = tt
@@ -152,7 +154,7 @@ given_first contents handed [] (s ∷ scrolls) settled given same = absurd given
 given_first contents handed (f ∷ files) [] settled given same = absurd given
 given_first contents handed (f ∷ files) (s ∷ scrolls) [] given same = absurd same
 
--- one more file was given the entries that were handed out to one more scroll
+-- the next file was given the entries that were handed out to the next scroll
 pub given_push : {F : Type 0} (contents : F → Option (List ℕ)) (files : List (LiveFiles F)) (scrolls : List ScrollSeen) (f : LiveFiles F) (s : ScrollSeen) → AllGiven contents files scrolls → HaveLines contents s.entries f
     → AllGiven contents (files ++ f ∷ []) (scrolls ++ s ∷ [])
 given_push contents [] [] f s all have = (have, tt)

@@ -24,7 +24,7 @@ use Rattle.canbusd_options.specs.declared.serve_options.ServeOptions.{ServeOptio
 use Rattle.canbusd_options.specs.Options.{timing_at}
 use Rattle.canbusd_serve.specs.Served.{AreAllBenches, AreBenches, AreConfigured, AreEnds, AreBusesTimed, IsBenchOf, IsDescribedHub, IsLegalEnd, IsOfBus, IsOfBuses, IsOfServer, IsServed, MakeBenches, Serves, end_lines, journals}
 
--- The buses of a server, one after the other.
+-- The buses of a server, one after another.
 
 -- one more bus
 benches-push : (o : ServeOptions) (buses : List BusWord) (bs : List (Bench Perfect Open)) (bus : BusWord) (b : Bench Perfect Open) → AreBenches o buses bs → IsBenchOf o bus b → AreBenches o (buses ++ bus ∷ []) (bs ++ b ∷ [])
@@ -38,13 +38,13 @@ pub benches-more : (o : ServeOptions) (buses : List BusWord) (bs : List (Bench P
 benches-more o buses bs i bus b below here are is =
     subst (λ l. AreBenches o l (bs ++ b ∷ [])) (ap (λ z. take i buses ++ z ∷ []) here ∙ sym (take_more buses i bus below)) (benches-push o (take i buses) bs bus b are is)
 
--- the bus of the next BUS argument is at fault
+-- the bus of the next BUS argument is invalid
 of-next : (o : ServeOptions) (buses : List BusWord) (bs : List (Bench Perfect Open)) (i : ℕ) (d : BusWord) (why : ProgramError) → buses ≡ o.buses.items → i < length buses → AreBenches o (take i buses) bs → IsOfBus (get_or buses i d) why → IsOfBuses o why
 of-next o buses bs i d why same below are is =
     subst (λ (l : List BusWord). (k : ℕ) × MakeBenches o (take k l) × IsSomeAnd (slice_get l k) (λ bus. IsOfBus bus why)) same
     (i, (bs, are), subst (λ (b : Option BusWord). IsSomeAnd b (λ bus. IsOfBus bus why)) (sym (slice_get-get_or buses i d below)) is)
 
--- the fault of the next bus is passed on
+-- the error for the next bus is passed on to the caller
 pub next-fails : {T : Type 0} (o : ServeOptions) (buses : List BusWord) (bs : List (Bench Perfect Open)) (i : ℕ) (d : BusWord) (failure : Report) (r : Result T Report) → buses ≡ o.buses.items → i < length buses → AreBenches o (take i buses) bs
     → IsOfBus (get_or buses i d) failure.error → IsErrAnd r (λ x. x ≡ failure) → IfErr r (λ x. IsOfServer o x.error)
 next-fails o buses bs i d failure (Ok t) same below are is passed = tt
@@ -58,7 +58,7 @@ benches-length o (x ∷ xs) (y ∷ ys) are = ap suc (benches-length o xs ys are.
 benches-length o [] (y ∷ ys) are = absurd are
 benches-length o (x ∷ xs) [] are = absurd are
 
--- one more bus has its bit rates
+-- if one more bus with its bit rates is added, all buses have their bit rates
 timed-push : (o : ServeOptions) (bs : List (Bench Perfect Open)) (b : Bench Perfect Open) → AreBusesTimed o bs → b.timing ≡ timing_at o.timings.items (length bs) → AreBusesTimed o (bs ++ b ∷ [])
 timed-push o bs b are here k d low =
     let longer : length (bs ++ b ∷ []) ≡ length bs + 1 = length-append bs (b ∷ []) in
@@ -96,7 +96,7 @@ settles-length left (p ∷ ps) (s ∷ ss) all = ap suc (settles-length left ps s
 settles-length left [] (s ∷ ss) all = absurd all
 settles-length left (p ∷ ps) [] all = absurd all
 
--- the histories of settled buses are legal
+-- if buses are settled, their histories are legal
 settles-legal : {A L : Type 0} (left : L → Journal) (passes : List (Vec PassSeen A)) (ends : List (Settled L)) → AllSettleIn left passes ends → All (λ j. IsLegalEnd j) (journals left ends)
 settles-legal left [] [] all = λ k d low. absurd (omega arith)
 settles-legal left (p ∷ ps) (s ∷ ss) all = All-cons (λ j. IsLegalEnd j) (left s.history) (journals left ss) all.0.legal (settles-legal left ps ss all.1)
@@ -110,7 +110,7 @@ settles-configured left n (b ∷ bs) (s ∷ ss) all = (all.0, settles-configured
 settles-configured left n [] (s ∷ ss) all = absurd all
 settles-configured left n (b ∷ bs) [] all = absurd all
 
--- settled buses leave the ends of the buses of a hub
+-- the histories of the settled buses are the final histories of the buses of a hub
 pub settles-ends : {A L : Type 0} (left : L → Journal) (benches : List (Bench Perfect Open)) (hub : List BusSeen) (passes : List (Vec PassSeen A)) (ends : List (Settled L)) → hub ≡ buses_from 0 benches → length passes ≡ length hub → AllSettleIn left passes ends → AllConfigured left hub ends → AreEnds benches (journals left ends)
 settles-ends left benches hub passes ends made each settled configured = record {
   each = settles-length left passes ends settled ∙ each ∙ ap length made ∙ buses-length 0 benches;
@@ -118,14 +118,14 @@ settles-ends left benches hub passes ends made each settled configured = record 
   configured = settles-configured left 0 benches ends (subst (λ (buses : List BusSeen). AllConfigured left buses ends) made configured);
 }
 
--- the lines that were written, if no fault was reported
+-- the lines that were written, if no error was reported
 pub put-lines : {W L T E : Type 0} (contents : W → Option (List ℕ)) (left : L → Journal) (old new : W) (r : Result T E) (a b : Bool) (lent buses : List BusWord) (own ends : List (Settled L)) → IfErr r (λ _. IsTrue a) → (IsTrue a → IsTrue b) → b ≡ false
     → lent ≡ buses → own ≡ ends → OnOk r (Took contents old new (end_lines lent (journals left own))) → Took contents old new (end_lines buses (journals left ends))
 put-lines {L = L} contents left old new (Ok t) a b lent buses own ends told kept quiet same_buses same_ends put =
     subst (λ (s : List (Settled L)). Took contents old new (end_lines buses (journals left s))) same_ends (subst (λ (w : List BusWord). Took contents old new (end_lines w (journals left own))) same_buses put)
 put-lines contents left old new (Err e) a b lent buses own ends told kept quiet same_buses same_ends put = let yes : IsTrue b = kept told in cc
 
--- the ends have the configurations that the BUS arguments and the options give
+-- the final histories have the configurations that the BUS arguments and the options define
 served-configured : (o : ServeOptions) (buses : List BusWord) (benches : List (Bench Perfect Open)) (ends : List Journal) → AreBenches o buses benches → AllZip (λ b j. j.config ≡ b.config) benches ends → AreConfigured o buses ends
 served-configured o [] [] [] are all = tt
 served-configured o (x ∷ xs) (b ∷ bs) (j ∷ js) are all =
@@ -135,7 +135,7 @@ served-configured o (x ∷ xs) [] ends are all = absurd are
 served-configured o [] [] (j ∷ js) are all = absurd all
 served-configured o (x ∷ xs) (b ∷ bs) [] are all = absurd all
 
--- a server of the buses that its options describe
+-- a server with the buses that its options describe
 pub serves-all : {W : Type 0} (contents : W → Option (List ℕ)) (o : ServeOptions) (benches : List (Bench Perfect Open)) (old new : W) → AreAllBenches o benches → Serves contents o benches old new → IsServed contents o old new
 serves-all contents o benches old new are serves = record {
   named = benches-named o o.buses.items benches are;

@@ -28,7 +28,7 @@ use Rattle.canbusd_options.specs.Options.{timing_at}
 
 -- A server's buses, and the lines that the server writes at its end (own choice).
 
--- the bus is as its BUS argument and the options describe it
+-- the bus matches the description in its BUS argument and the options
 pub record IsBenchOf (o : ServeOptions) (bus : BusWord) (b : Bench Perfect Open) : Type 0 where
   pub names : b.names ≡ names_in bus.names.now
   pub good : AreNames b.names
@@ -38,40 +38,40 @@ pub record IsBenchOf (o : ServeOptions) (bus : BusWord) (b : Bench Perfect Open)
   pub pace_ms : b.pace_ms ≡ o.pace_ms
   pub rx_capacity : b.rx_capacity ≡ o.settings.rx_capacity
 
--- each bus is as its BUS argument and the options describe it
+-- each bus matches the description in its BUS argument and the options
 abbrev pub AreBenches : ServeOptions → List BusWord → List (Bench Perfect Open) → Type 0
 AreBenches o buses benches = AllZip (λ bus b. IsBenchOf o bus b) buses benches
 
--- each bus of a server is as the options describe it
+-- each bus of a server matches the description in the options
 abbrev pub AreAllBenches : ServeOptions → List (Bench Perfect Open) → Type 0
 AreAllBenches o benches = AreBenches o o.buses.items benches
 
--- each bus has the bit rates that the options have at its place
+-- each bus has the bit rates that the options contain at its index
 abbrev pub AreBusesTimed : ServeOptions → List (Bench Perfect Open) → Type 0
 AreBusesTimed o benches =
     (k : ℕ) (d : Bench Perfect Open)
     → k < length benches
     → (slice_index_or benches k d).timing ≡ timing_at o.timings.items k
 
--- each bus of a server is as the options describe it, with its bit rates
+-- each bus of a server matches the description in the options, with its bit rates
 abbrev pub AreDescribed : ServeOptions → List (Bench Perfect Open) → Type 0
 AreDescribed o benches = AreAllBenches o benches × AreBusesTimed o benches
 
--- a hub is made of the buses that the options of a server describe
+-- a hub consists of the buses that the options of a server describe
 abbrev pub IsDescribedHub : ServeOptions → List BusSeen → Type 0
 IsDescribedHub o hub = (benches : List (Bench Perfect Open)) × AreDescribed o benches × (hub ≡ buses_from 0 benches)
 
--- some buses are as these BUS arguments and the options describe them
+-- some buses match the descriptions in these BUS arguments and the options
 abbrev pub MakeBenches : ServeOptions → List BusWord → Type 0
 MakeBenches o buses = (benches : List (Bench Perfect Open)) × AreBenches o buses benches
 
--- a fault of a bus of a server: of its names, or of its script
+-- an error in a bus of a server: in its names or in its script
 abbrev pub IsOfBus : BusWord → ProgramError → Type 0
 IsOfBus bus why =
     IsOfNames bus.names.now why
     ⊎ (AreNames (names_in bus.names.now) × IsOfPlan bus.script (names_in bus.names.now) why)
 
--- a fault of serving: the server cannot listen or write, its folder does not accept files, a bus got the pass of
+-- an error in serving: the server cannot listen or write, its folder does not accept files, a bus got the pass of
 -- another bus, or memory was refused
 abbrev pub IsOfServing : ProgramError → Type 0
 IsOfServing fault.CannotListen = Unit {0}
@@ -81,25 +81,25 @@ IsOfServing fault.Write = Unit {0}
 IsOfServing fault.NoMemory = Unit {0}
 IsOfServing why = ⊥
 
--- a fault of a server with these buses: no hub can be made of them within these limits, memory for the hub was refused,
--- or it is a fault of serving
+-- an error of a server with these buses: no hub can be made of them within these limits, memory for the hub was
+-- refused, or serving failed
 abbrev pub IsOfHub : (BusConfig → Type 0) → List (Bench Perfect Open) → ProgramError → Type 0
 IsOfHub limits benches (fault.Buses BadConfig) = MakeHubWithin limits benches → ⊥
 IsOfHub limits benches (fault.Buses NoMemory) = Unit {0}
 IsOfHub limits benches why = IsOfServing why
 
--- the limits of a server's buses: those of a record, or those of long runs
+-- the limits of a server's buses: the limits of a record or of long runs
 abbrev pub limits_of : Recording → BusConfig → Type 0
 limits_of recording.AtEnd = IsConfig
 limits_of recording.Live = IsOfLongRuns
 limits_of recording.Never = IsOfLongRuns
 
--- a fault of one of the buses of a server; the buses before it are as their BUS arguments describe them
+-- an error in one of the buses of a server; the buses before it match their BUS arguments
 abbrev pub IsOfBuses : ServeOptions → ProgramError → Type 0
 IsOfBuses o why =
     (i : ℕ) × MakeBenches o (take i o.buses.items) × IsSomeAnd (slice_get o.buses.items i) (λ bus. IsOfBus bus why)
 
--- a fault of a server: of one of its buses, of serving, or of a server with the buses that the options describe
+-- an error of a server: in one of its buses, in serving, or in a server with the buses that the options describe
 abbrev pub IsOfServer : ServeOptions → ProgramError → Type 0
 IsOfServer o why =
     IsOfBuses o why
@@ -112,12 +112,12 @@ IsOfServer o why =
 abbrev pub IsLegalEnd : Journal → Type 0
 IsLegalEnd j = IsLegal j.config j.history
 
--- the line of a bus at the end: its first name and the number of its entries
+-- the last line for a bus: its first name and the number of its entries
 abbrev pub bus_end_line : BusWord → Journal → List ℕ
 bus_end_line bus j =
     codes "bus " ++ first_name_of bus.names.now ++ codes " entries " ++ decimal (length j.history) ++ 10 ∷ []
 
--- the lines of all buses at the end
+-- the last lines for all buses
 abbrev pub end_lines : List BusWord → List Journal → List ℕ
 end_lines [] ends = []
 end_lines (bus ∷ buses) [] = []
@@ -131,16 +131,16 @@ listening_line heard = codes "listening " ++ heard ++ 10 ∷ []
 abbrev pub LeavesPort : List ℕ → Type 0
 LeavesPort address = (host : List ℕ) × (address ≡ host ++ codes ":0")
 
--- the server listens at the address that it was given, or the system chose the port
+-- the server listens at the requested address, or at a port that the system chose
 abbrev pub IsHeardAt : List ℕ → List ℕ → Type 0
 IsHeardAt address heard = LeavesPort address ⊎ (heard ≡ address)
 
--- the server reported its address; `address` is the address that it was given
+-- the server reported its address; `address` is the requested address
 abbrev pub IsListening : {W : Type 0} → (W → Option (List ℕ)) → List ℕ → W → W → Type 0
 IsListening contents address old new =
     (heard : List ℕ) × IsHeardAt address heard × Appends (contents old) (contents new) (listening_line heard)
 
--- each bus has the configuration that its BUS argument and the options give it
+-- each bus has the configuration that its BUS argument and the options define
 abbrev pub AreConfigured : ServeOptions → List BusWord → List Journal → Type 0
 AreConfigured o buses ends =
     AllZip (λ bus j. j.config ≡ config_of o.settings (length (names_in bus.names.now))) buses ends
@@ -155,7 +155,7 @@ pub record AreEnds (benches : List (Bench Perfect Open)) (ends : List Journal) :
   pub legal : All (λ j. IsLegalEnd j) ends
   pub configured : AllZip (λ b j. j.config ≡ b.config) benches ends
 
--- a server of these buses reported its address, and at its end the number of entries of each bus
+-- a server of these buses reported its address at the start, and the number of entries of each bus at the end
 pub record Serves {W : Type 0} (contents : W → Option (List ℕ)) (o : ServeOptions)
     (benches : List (Bench Perfect Open)) (old new : W) : Type 0 where
   pub ends : List Journal
@@ -164,8 +164,8 @@ pub record Serves {W : Type 0} (contents : W → Option (List ℕ)) (o : ServeOp
   pub address : IsHeardAt o.address.now heard
   pub wrote : Appends (contents old) (contents new) (listening_line heard ++ end_lines o.buses.items ends)
 
--- a server reported its address, and at its end the number of entries of each bus; these entries are a legal history of
--- the bus's configuration
+-- a server reported its address at the start, and the number of entries of each bus at the end; these entries are a
+-- legal history for the bus's configuration
 pub record IsServed {W : Type 0} (contents : W → Option (List ℕ)) (o : ServeOptions) (old new : W) : Type 0 where
   pub named : All (λ bus. AreNames (names_in bus.names.now)) o.buses.items
   pub ends : List Journal

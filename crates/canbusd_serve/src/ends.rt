@@ -1,4 +1,4 @@
-//! The number of entries of each bus at the end of a server.
+//! The number of entries of each bus when a server ends.
 ghost use Rattle.std.specs.Prelude.{◌≡◌, OnOk};
 ghost use Rattle.canbusd_io.specs.Files.{Took};
 ghost use Rattle.canbusd_serve.specs.Served.{bus_end_line, end_lines, journals};
@@ -11,7 +11,7 @@ use canbusd_options::BusWord;
 use std::alloc::Global;
 use std::io::Write;
 
-/// The end of a bus, with the number of its entries.
+/// The final state of a bus, which includes the number of its entries.
 pub trait Ended: Leaves {
     ghost use Rattle.std.specs.Prelude.{◌≡◌, length};
 

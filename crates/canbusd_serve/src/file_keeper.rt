@@ -18,13 +18,14 @@ use std::sync::Wait;
 use std::time::Instant;
 use std::{io, time};
 
-/// The time in seconds after which a slow write is reported: the bus waits for the file.
+/// The time in seconds after which a slow write is reported, because the bus waits for the file.
 const PATIENCE: u64 = 1;
 
-/// The smallest time in seconds between two reports of slow writes.
+/// The minimum time in seconds between two reports of slow writes.
 const PAUSE: u64 = 60;
 
-/// The files of a bus. Each file without a fault contains the lines of all entries that it was given. Contracts see these entries.
+/// The files of a bus. Each file without a write error contains the lines of all entries that it was given. Contracts see these
+/// entries.
 #[derive(Drop)]
 pub struct KeptFiles<F: Write + OpenFile + Drop> {
     files: LiveFiles<F>,
@@ -44,7 +45,7 @@ impl<F: Write + OpenFile + Drop> Model for KeptFiles<F> {
 }
 
 impl<F: Write + OpenFile + Drop> KeptFiles<F> {
-    /// Returns files that were given no entries yet.
+    /// Returns files that have not been given any entries yet.
     pub fn new(files: LiveFiles<F>) -> KeptFiles<F>
         requires { HaveLines F.contents [] files }
         ensures { result ≡ [] }
@@ -80,8 +81,8 @@ impl<F: Write + OpenFile + Drop, H: Wait + time::Clock, E: Write> Keeper
     for FileKeeper<'_, '_, '_, '_, F, H, E> {
     ghost given = { λ keeper. keeper.kept };
 
-    // The lines about rules are written first. If the record is read in the meantime, it contains no entry that comes after rules
-    // that were not yet written.
+    // The lines about rules are written first. So if the record is read in the meantime, it contains no entry that comes after
+    // rules that were not yet written.
     fn keep(&mut self, block: &Block) {
         keep_faults(self.host, &mut self.faults, &block.changes);
         keep_entries(
@@ -171,8 +172,8 @@ fn keep_log<F: Write + OpenFile + Drop, H: Wait + time::Clock, E: Write>(
     host.report(kept);
 }
 
-// Returns whether the write that began at `begun` was slow and has to be reported. If so, the time of the last report is set to
-// now.
+// Returns whether a write that began at `begun` was slow and has to be reported. If so, the time of the last report is set to the
+// current time.
 fn is_late<R: time::Clock>(
     rt: &R,
     begun: io::Result<Instant>,

@@ -1,4 +1,4 @@
-//! The clock and the reports of a server while it runs.
+//! The clock and the reports of a running server.
 ghost use Rattle.std.specs.Prelude.{◌≡◌, ◌-◌, ◌^◌, ◌/◌, min};
 ghost use Rattle.std.specs.Duration.{as_nanos};
 
@@ -21,7 +21,7 @@ const LAST: u128 = 9_999_999_999_999_999;
 const NEARLY_FULL: &str =
     "the record is nine tenths full; serve --record live or --record none has no such end";
 
-/// The time at which a server with bit rates started. From then on, its moments come from a clock that cannot be set.
+/// The time at which a server with bit rates started. After the start, its timestamps are computed with a clock that cannot be set.
 #[derive(Debug, Clone, Copy)]
 pub struct Start {
     since_1970: Duration,
@@ -54,14 +54,14 @@ pub struct Host<'h, 'a, 'l, H, E: Write> {
     pub alloc: Global,
     pub options: &'h ServeOptions<'a>,
     pub errors: Mutex<&'h mut E>,
-    /// Whether a bus has lost its driver.
+    /// Whether any bus has lost its driver.
     pub has_lost: &'l AtomicBool,
     /// The time of the start, if any bus has bit rates.
     pub start: Option<Start>,
 }
 
 impl<H: Wait + time::Clock, E: Write> Clock for Host<'_, '_, '_, H, E> {
-    /// Returns the time since 1970. A later time than the latest moment is cut to that moment.
+    /// Returns the time since 1970, limited to the latest moment that can be represented.
     fn now(&self) -> Moment {
         match self.since_1970() {
             Ok(since) => moment_of(since),
@@ -120,7 +120,7 @@ impl<'a, H: Wait + time::Clock, E: Write> Host<'_, 'a, '_, H, E> {
         }
     }
 
-    /// Reports the fault of a file, if there is one.
+    /// Reports the error in a file, if there is one.
     pub fn report(&self, kept: Result<(), Report<'_>>) {
         if let Err(failure) = kept {
             let mut errors = self.errors.lock(self.rt);
@@ -136,7 +136,7 @@ impl<'a, H: Wait + time::Clock, E: Write> Host<'_, 'a, '_, H, E> {
         let _ = writeln!(errors, "note: bus {name}: waits for {path}");
     }
 
-    /// Returns the name by which a bus is called, or an empty text if there is no such bus.
+    /// Returns the name by which reports call a bus, or an empty string if there is no such bus.
     pub fn name_of(&self, bus: usize) -> &'a str {
         first_name_at(&self.options.buses, bus)
     }
@@ -149,7 +149,7 @@ impl<'a, H: Wait + time::Clock, E: Write> Host<'_, 'a, '_, H, E> {
     }
 }
 
-// Returns the moment at this time after 1970, or the latest moment if the time is later.
+// Returns the moment for a time since 1970, limited to the latest moment that can be represented.
 fn moment_of(since: Duration) -> Moment
     ensures { result ≡ min (as_nanos since / 1000) (10 ^ 16 - 1) }
 {

@@ -16,18 +16,18 @@ use std::rt::Files;
 /// The note that is added if another program listens at the port.
 const FREE_PORT: &str = "  with port 0, as in --listen 127.0.0.1:0, the system picks a free one\n";
 
-/// An acceptor at the address of a server, and the address as text.
+/// An acceptor at the address of a server, and the address as a string.
 #[derive(Drop)]
 pub struct Listening {
     pub acceptors: [Acceptor; 1],
     /// The address as it was given. If its port is 0, this is the address that the system assigned.
     pub heard: String,
-    /// The file of the socket, if the address is a Unix path.
+    /// The socket file, if the address is a Unix path.
     pub file: Option<SocketFile>,
 }
 
-/// Listens at an address for this many sessions. The address is a Unix path if it begins with `/` or `.`, and otherwise a host and
-/// a port.
+/// Listens at an address for up to this many sessions. The address is a Unix path if it begins with `/` or `.`, and otherwise a
+/// host and a port.
 pub fn listen<'a, H: Files<File = File> + Net<Listener = TcpListener, Stream = TcpStream>>(
     rt: &H,
     alloc: Global,
@@ -73,7 +73,7 @@ fn open<'a>(
     }
 }
 
-/// Returns the report of an address at which the server cannot listen.
+/// Returns the report for an address at which the server cannot listen.
 pub fn listen_failure<'a>(alloc: Global, place: &str, error: &Error) -> Report<'a>
     ensures { result.error ≡ fault.CannotListen }
 {
@@ -88,7 +88,7 @@ pub fn listen_failure<'a>(alloc: Global, place: &str, error: &Error) -> Report<'
     failure
 }
 
-/// Removes the file of the socket, if there is one.
+/// Removes the socket file, if there is one.
 pub fn leave<H: Files>(rt: &H, file: Option<SocketFile>) {
     if let Some(file) = file {
         file.remove(rt);
@@ -125,7 +125,7 @@ fn is_path(address: &str) -> bool {
     address.starts_with('/') || address.starts_with('.')
 }
 
-// Returns whether the system chooses the port.
+// Returns whether the address lets the system choose the port.
 fn is_port_open(address: &str) -> bool
     ensures { IsTrue result → LeavesPort address.now }
 {

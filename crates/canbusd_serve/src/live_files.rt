@@ -25,7 +25,7 @@ use std::rt::Files;
 pub struct LiveFiles<F: Write + OpenFile + Drop> {
     pub record: Option<LiveRecord<F>>,
     pub log: Option<LiveLog<F>>,
-    /// Whether any of the files had a fault. If this is false, all files still get lines.
+    /// Whether any of the files had a write error. If this is false, lines are still written to all files.
     has_fault: bool,
 }
 
@@ -52,8 +52,8 @@ impl<F: Write + OpenFile + Drop> LiveFiles<F> {
         kept
     }
 
-    /// Writes the lines of the last entries and the end line to the record, if a record is wanted. Then it gives the record and its
-    /// faults their own names. `count` is the number of all entries.
+    /// Writes the lines of the last entries and the end line to the record, if a record is wanted. Then it renames the record and
+    /// its file of faults to their final names. `count` is the number of all entries.
     fn finish_record<H: Files>(
         &mut self,
         rt: &H,
@@ -99,7 +99,7 @@ impl<F: Write + OpenFile + Drop> LiveFiles<F> {
         kept
     }
 
-    /// Returns whether all files that the options ask for exist and had no fault.
+    /// Returns whether all files that the options request exist and had no write error.
     fn are_there(&self, options: &ServeOptions<'_>) -> bool
         ensures { IsTrue result → AreThere options.now self.now }
     {
@@ -117,8 +117,7 @@ impl<F: Write + OpenFile + Drop> LiveFiles<F> {
 }
 
 /// Creates the files of each bus that are written while the server runs, and writes the first lines of the records. The logs
-/// replace those of an earlier run only after all files were created. If a file cannot be created, the other files are removed.
-///
+/// replace the logs of an earlier run only after all files were created. If a file cannot be created, the other files are removed.
 /// Returns `CannotOpen` with the folder if a file cannot be created there.
 pub fn open_all<'a, H: Files<File = File>>(
     rt: &H,
@@ -151,7 +150,7 @@ pub fn open_all<'a, H: Files<File = File>>(
     }
 }
 
-// Gives the log of each bus its own name.
+// Renames the log of each bus to its final name.
 fn name_logs<'a, H: Files<File = File>>(
     rt: &H,
     alloc: Global,
@@ -174,7 +173,7 @@ fn name_logs<'a, H: Files<File = File>>(
     Ok(())
 }
 
-// Removes the files of a start that failed, except logs that already have their own names.
+// Removes the files of a server that failed to start, except logs that already have their final names.
 fn remove_all<H: Files<File = File>>(rt: &H, all: &[LiveFiles<File>]) {
     for files in all {
         if let Some(record) = &files.record {
@@ -274,9 +273,9 @@ fn open_log<'a, H: Files<File = File>>(
     ))
 }
 
-/// Writes the missing lines to the files of each bus, and gives the record and its faults their own names. Returns whether all
-/// wanted files exist and had no fault. A fault ends only its own file. The caller must show that the files got all entries that
-/// were taken from the history of the bus.
+/// Writes the missing lines to the files of each bus, and renames the record and its file of faults to their final names. Returns
+/// whether all wanted files exist and had no write error. A write error ends only the file in which it occurs. The caller must show
+/// that all entries taken from the history of the bus were written to the files.
 pub fn finish_all<F: Write + OpenFile + Drop, H: Files, E: Write>(
     rt: &H,
     alloc: Global,
@@ -316,7 +315,7 @@ fn split_first(faults: &[LiveFaults]) -> (Option<&LiveFaults>, &[LiveFaults]) {
     }
 }
 
-// Completes the files of a bus. Its record is now the text of its whole history.
+// Completes the files of a bus. Its record is then the text of its whole history.
 fn finish<F: Write + OpenFile + Drop, H: Files, E: Write>(
     rt: &H,
     alloc: Global,

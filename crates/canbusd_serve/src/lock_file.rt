@@ -10,7 +10,7 @@ use std::os::unix::fs::{MetadataExt, OpenOptionsExt};
 use std::rt::Files;
 use std::{fs, io};
 
-/// The number of tries to lock a file. A server tries again if another server has just created or removed the file.
+/// How many times a server tries to lock a file. It tries again if another server has just created or removed the file.
 const TRIES: u32 = 16;
 
 /// A file that this server has locked.
@@ -77,7 +77,7 @@ fn open_old<H: Files<File = File>>(rt: &H, path: &str) -> io::Result<Option<File
     }
 }
 
-// Returns whether this file is the one at the path.
+// Returns whether this file is the file at the path.
 fn is_at<H: Files>(rt: &H, path: &str, file: &Metadata) -> bool {
     match fs::symlink_metadata(rt, path) {
         Ok(found) => found.dev() == file.dev() && found.ino() == file.ino(),

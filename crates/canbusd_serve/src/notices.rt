@@ -8,7 +8,7 @@ use canbusd_options::BusWord;
 use std::alloc::{AllocError, Global};
 use std::net::SocketAddr;
 
-/// Returns the line for a notice: the moment as in a log, then the session or the bus, and the event.
+/// Returns the line for a notice: the timestamp as in a log, then the session or the bus, and the event.
 pub fn notice_line(
     alloc: Global,
     moment: Moment,
@@ -75,7 +75,7 @@ fn bus_text(alloc: Global, name: &str, what: &str) -> Result<String, AllocError>
     format!(in alloc; "{name}: {what}")
 }
 
-/// Returns the report of a bus whose driver was this many milliseconds late.
+/// Returns the report for a bus whose driver was `millis` milliseconds late.
 pub fn late_text(alloc: Global, millis: u64) -> Result<String, AllocError> {
     let (seconds, tenths) = (millis / 1000, millis / 100 % 10);
     format!(in alloc; "{seconds}.{tenths} s behind its bit rate")
@@ -88,7 +88,7 @@ fn from_text(alloc: Global, from: Option<SocketAddr>) -> Result<String, AllocErr
     }
 }
 
-// Returns the name of an interface, or an empty text if there is no such interface.
+// Returns the name of an interface, or an empty string if there is no such interface.
 fn name_at<'a>(buses: &[BusWord<'a>], bus: usize, iface: Iface) -> &'a str {
     match buses.get(bus) {
         Some(bus) => bus
@@ -100,7 +100,7 @@ fn name_at<'a>(buses: &[BusWord<'a>], bus: usize, iface: Iface) -> &'a str {
     }
 }
 
-/// Returns the name by which a bus is called, or an empty text if there is no such bus.
+/// Returns the name by which reports call a bus, or an empty string if there is no such bus.
 pub fn first_name_at<'a>(buses: &[BusWord<'a>], bus: usize) -> &'a str
     ensures known { IfSome (slice_get buses.now bus)
         (λ word. result.now ≡ first_name_of word.names.now) }

@@ -20,7 +20,7 @@ use std::rt::Files;
 const MOST_OF_FRONT: u64 = 61;
 
 /// Locks the folder for this server with a lock file in the folder. Returns `CannotOpen` if another server has locked it. Returns
-/// `None` if no file can be created there or the file system has no locks.
+/// `None` if no file can be created there or the file system does not support locks.
 pub fn lock_folder<'a, H: Files<File = File>>(
     rt: &H,
     alloc: Global,
@@ -44,8 +44,9 @@ pub fn lock_folder<'a, H: Files<File = File>>(
     }
 }
 
-/// Checks that the folder accepts the files that the options ask for: the record of each bus with its faults, and a log that is
-/// written while the server runs. The folder is left unchanged. Returns `CannotOpen` with the folder if it does not accept a file.
+/// Checks that the files that the options request can be created in the folder: the record of each bus with its file of faults, and
+/// a log that is written while the server runs. The folder is left unchanged. Returns `CannotOpen` with the folder if a file cannot
+/// be created there.
 pub fn look_at_folder<'a, H: Files<File = File>>(
     rt: &H,
     alloc: Global,
@@ -73,7 +74,7 @@ pub fn look_at_folder<'a, H: Files<File = File>>(
     Ok(())
 }
 
-// Checks whether the folder accepts a file that an audit reads, and whether a draft can be set aside there.
+// Checks whether a file that an audit reads can be created in the folder, and whether a draft can be set aside there.
 fn look_at_record<'a, H: Files<File = File>>(
     rt: &H,
     alloc: Global,
@@ -91,8 +92,9 @@ fn look_at_record<'a, H: Files<File = File>>(
     }
 }
 
-/// Sets aside the records and faults that interrupted runs of these buses left, and reports each one. A record that has only its
-/// first lines is removed: it comes from a start that failed, and must not replace a record that was set aside.
+/// Sets aside the records and files of faults that interrupted runs of these buses left behind, and reports each one. A record that
+/// contains only its first lines is removed: it is from a server that failed to start, and must not replace a record that was set
+/// aside.
 pub fn set_all_aside<'a, H: Files<File = File>, E: Write>(
     rt: &H,
     alloc: Global,
@@ -117,9 +119,9 @@ pub fn set_all_aside<'a, H: Files<File = File>, E: Write>(
     Ok(())
 }
 
-// Sets aside an incomplete record and then its faults. Faults that were set aside earlier are removed first. If the server is
-// killed in between, no record is left next to the faults of another run. If the faults cannot be set aside, the record is moved
-// back, so that the next start finds both files.
+// Sets aside an incomplete record and then its file of faults. A file of faults that was set aside earlier is removed first. If the
+// server is killed in between, no record is left next to the faults of another run. If the file of faults cannot be set aside, the
+// record is moved back, so that the next start finds both files.
 fn set_aside<'a, H: Files<File = File>>(
     rt: &H,
     alloc: Global,
@@ -152,7 +154,7 @@ fn aside_note(alloc: Global, record: &Draft) -> Result<String, AllocError> {
     format!(in alloc; "note: {draft} of a run that was cut off is {aside} now\n")
 }
 
-/// The record, the log and the faults of a bus that will be written.
+/// The record, the log and the file of faults that will be written for a bus.
 #[derive(Drop)]
 pub struct Drafts {
     pub record: Draft,
@@ -183,7 +185,7 @@ pub fn drafts_of<'a, H: Files>(
     }
 }
 
-/// Returns the report of a folder in which a file cannot be created.
+/// Returns the report for a folder in which a file cannot be created.
 pub fn open_failure<'a>(alloc: Global, folder: &'a str, path: &str, error: &Error) -> Report<'a>
     ensures { IsOfServing result.error }
 {
@@ -194,8 +196,8 @@ pub fn open_failure<'a>(alloc: Global, folder: &'a str, path: &str, error: &Erro
     )
 }
 
-/// Writes the record and the log of each bus into a folder. Then it gives the faults, which were written earlier, their own name. A
-/// fault ends only its own file.
+/// Writes the record and the log of each bus into a folder. Then it renames the file of faults, which was written earlier, to its
+/// final name. An error ends only the file in which it occurs.
 pub fn save_all<H: Files, E: Write>(
     rt: &H,
     alloc: Global,

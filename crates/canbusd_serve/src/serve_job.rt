@@ -62,19 +62,17 @@ impl<
         + Sync,
 > ServerRuntime for R {}
 
-/// An input that is read by a separate thread.
+/// An input that a separate thread can read.
 trait Input: Read + Drop + Send + 'static {}
 
 impl<R: Read + Drop + Send + 'static> Input for R {}
 
-/// Serves the buses of the options until all their sessions are over or, if the options ask for it, until the end of the input. It
-/// writes its address to the output, and at the end the number of entries of each bus's record. Then it writes the records and
+/// Serves the buses in the options until all their sessions have ended or, if the options request it, until the end of the input.
+/// It writes its address to the output, and at the end the number of entries of each bus's record. Then it writes the records and
 /// logs. Returns whether all of this was written and each bus kept its driver. Each fault, and each bus whose record is full, is
-/// reported to `errors`.
-///
-/// The names and the script of each bus are checked first, and then the limits of the buses. After that the server listens. A
-/// folder in which files cannot be written is reported before any client can connect. The input is read only if the options ask for
-/// its end.
+/// reported to `errors`. The names and the script of each bus are checked first, and then the limits of the buses. After that the
+/// server listens. A folder in which files cannot be written is reported before any client can connect. The input is read only if
+/// the options request that the server stops at its end.
 pub fn run_serve<'a, H: ServerRuntime, R: Read + Drop + Send + 'static, W: Write, E: Write + Send>(
     rt: &H,
     alloc: Global,
@@ -118,7 +116,7 @@ struct ServerRun<'r, 'a, H: ServerRuntime> {
     has_lost: AtomicBool,
     // The lock of the folder, which is held until the last file is written.
     lock: OnceLock<LockFile>,
-    // The faults of each bus, if its record is wanted. While the bus is served, its keeper has them.
+    // The faults of each bus, if its record is wanted. While the bus is served, its keeper holds them.
     faults: Mutex<Vec<LiveFaults>>,
 }
 
@@ -168,7 +166,7 @@ impl<'r, 'a, H: ServerRuntime> ServerRun<'r, 'a, H> {
         Ok(benches)
     }
 
-    // Returns the parts of the bus at this index, which has this BUS argument.
+    // Returns the parts of the bus at index `place`, which this BUS argument describes.
     fn read_bench(&self, place: usize, bus: BusWord<'a>) -> Result<Bench<Perfect, Open>, Report<'a>>
         ensures made { IfOk result (λ bench. IsBenchOf self.now.options.now bus.entry bench) }
         ensures timed { IfOk result (λ bench.
@@ -244,7 +242,7 @@ impl<'r, 'a, H: ServerRuntime> ServerRun<'r, 'a, H> {
         }
     }
 
-    // Serves the buses that consist of these parts, and writes their records and logs. Returns whether a fault was reported.
+    // Serves the buses that consist of these parts, and writes their records and logs. Returns whether an error was reported.
     fn run_whole<N: RollName + MeterName + Send + Sync, R: Input, W: Write, E: Write + Send>(
         &self,
         benches: Vec<Bench<Perfect, Open>>,
@@ -279,7 +277,7 @@ impl<'r, 'a, H: ServerRuntime> ServerRun<'r, 'a, H> {
         Ok(reporter.has_reported() || !is_whole)
     }
 
-    // Serves the buses of long runs that consist of these parts, and completes their files. Returns whether a fault was reported,
+    // Serves the buses of long runs that consist of these parts, and completes their files. Returns whether an error was reported,
     // and the files.
     fn run_live<N: RollName + MeterName + Send + Sync, R: Input, W: Write, E: Write + Send>(
         &self,
@@ -317,12 +315,12 @@ impl<'r, 'a, H: ServerRuntime> ServerRun<'r, 'a, H> {
         Ok((has_fault || !are_whole(&faults), files))
     }
 
-    // Takes the faults of all buses.
+    // Takes the faults of all buses out of `self`.
     fn take_faults(&self) -> Vec<LiveFaults> {
         mem::replace(&mut *self.faults.lock(self.rt), Vec::new(self.alloc))
     }
 
-    // Serves the buses that consist of these parts, and settles them. Returns what is left of each bus, and the files that were
+    // Serves the buses that consist of these parts, and settles them. Returns the final state of each bus, and the files that were
     // written while the server ran.
     fn settle<N: BusName + Send + Sync, L: Leaves, R: Input, W: Write, E: Write + Send>(
         &self,
@@ -442,8 +440,8 @@ impl<'r, 'a, H: ServerRuntime> ServerRun<'r, 'a, H> {
         self.serve_until(hub, scrolls, files, acceptors, until, errors)
     }
 
-    // Locks the folder, checks whether it accepts the files, and sets aside incomplete records of earlier runs. Nothing else in the
-    // folder has been changed before this.
+    // Locks the folder, checks whether the files can be created in it, and sets aside incomplete records of earlier runs. Nothing
+    // else in the folder has been changed before this call.
     fn take_folder<E: Write>(&self, errors: &mut E) -> Result<(), Report<'a>>
         ensures { IfErr result (λ failure. IsOfServing failure.error) }
     {
@@ -490,7 +488,7 @@ impl<'r, 'a, H: ServerRuntime> ServerRun<'r, 'a, H> {
         }
     }
 
-    // Returns when the clock of the buses starts, if any bus has bit rates.
+    // Returns the time at which the clock of the buses starts, if any bus has bit rates.
     fn start(&self) -> Option<Start> {
         if self.options.has_timings() {
             Start::now(self.rt)
@@ -518,14 +516,14 @@ impl<'r, 'a, H: ServerRuntime> ServerRun<'r, 'a, H> {
             files: Vec::with_capacity(self.alloc, hub.count())?,
             scrolls: Vec::with_capacity(self.alloc, hub.count())?,
         };
-        // There is capacity for the faults that come back at the end.
+        // Reserves memory for the faults that the keepers return at the end.
         let room = Vec::with_capacity(self.alloc, hub.count())?;
         let faults = mem::replace(&mut *self.faults.lock(self.rt), room);
         if faults.is_empty() {
             self.keep_no_changes(hub);
         }
         let mut kept = keepers_of(self.alloc, host, files, faults, scrolls)?;
-        // The iterator has a name, so it lends each keeper for as long as the scribes exist.
+        // The iterator is stored in a variable, so it lends each keeper for as long as the scribes exist.
         let each = kept.iter_mut();
         let scribes = scribes_of(self.alloc, self.options, each)?;
         let until = until.as_ref();
@@ -595,7 +593,7 @@ impl<'r, 'a, H: ServerRuntime> ServerRun<'r, 'a, H> {
     }
 }
 
-// Returns keepers for these files. Each keeper has the scroll of its bus.
+// Returns keepers for these files. Each keeper holds the scroll of its bus.
 fn keepers_of<'o, 'h, 'a, 'l, N: BusName, F: Write + OpenFile + Drop, H: Wait + Clock, E: Write>(
     alloc: Global,
     host: &'o Host<'h, 'a, 'l, H, E>,
@@ -652,7 +650,7 @@ fn scribes_of<'k, N: BusName, K: Keeper + Drop>(
     Ok(Some(scribes))
 }
 
-// Reads an input to its end and then shuts down a stream, which ends the server. `--until-eof` uses it.
+// Reads an input to its end and then shuts down a stream, which stops the server. `--until-eof` uses this function.
 fn end_with<R: Read + Drop>(mut input: R, stream: &UnixStream) {
     let mut piece = [0; 4096];
     for _ in 0..u64::MAX {
@@ -666,7 +664,7 @@ fn end_with<R: Read + Drop>(mut input: R, stream: &UnixStream) {
     let _ = stream.shutdown(Shutdown::Both);
 }
 
-// Returns a note on how much memory a bus takes.
+// Returns a note on how much memory a bus uses.
 fn memory_note(recording: Recording) -> &'static str {
     match recording {
         Recording::AtEnd => "each bus reserves 108 bytes of memory for each event of --limit",
@@ -674,7 +672,7 @@ fn memory_note(recording: Recording) -> &'static str {
     }
 }
 
-// Writes the server's address to the output and flushes it, so that others can read it at once.
+// Writes the server's address to the output and flushes it, so that other programs can read it at once.
 fn put_listening<'a, W: Write>(alloc: Global, heard: &str, output: &mut W) -> Result<(), Report<'a>>
     ensures put { OnOk result (Took W.contents output.old output.new (listening_line heard.now)) }
     ensures fault { IfErr result (λ failure. failure.error ≡ fault.Write) }

@@ -1,8 +1,7 @@
-//! The socket file of a server that listens at a Unix path. No other server can have the path at the same time.
-//!
-//! A server locks the file PATH.lock next to the socket PATH, and removes both files at the end. A server that was killed leaves
-//! both files unlocked, and the next server can use them. The lock shows whether another server is alive, so a server never
-//! connects to another one to find out.
+//! The socket file of a server that listens at a Unix path. No other server can use the path at the same time. A server locks the
+//! file PATH.lock next to the socket PATH, and removes both files at the end. A server that was killed leaves both files unlocked,
+//! and the next server can use them. The lock shows whether another server is running, so a server never connects to another one to
+//! find out.
 
 use crate::lock_file::LockFile;
 use std::alloc::Global;
@@ -14,20 +13,19 @@ use std::os::unix::net::{UnixListener, UnixStream};
 use std::rt::Files;
 use std::{fs, io};
 
-/// The file of a socket, and its lock.
+/// A socket file and its lock.
 #[derive(Drop)]
 pub struct SocketFile {
     path: String,
     lock: LockFile,
-    /// The device number and the inode number of the socket's file. While the socket is open, no other file has the same two
-    /// numbers.
+    /// The device number and the inode number of the socket file. While the socket is open, no other file has the same two numbers.
     device: u64,
     file: u64,
 }
 
 impl SocketFile {
-    /// Listens at a path. If there is a socket at which no program listens any more, it is removed, even if another program left
-    /// it. Returns `AddrInUse` if another server has the path or another file is there.
+    /// Listens at a path. If the path leads to a socket at which no program listens any more, the socket is removed, even if it was
+    /// left by a different program. Returns `AddrInUse` if another server uses the path or another file is there.
     pub fn listen<H: Files<File = File> + Net>(
         rt: &H,
         alloc: Global,
@@ -53,7 +51,7 @@ impl SocketFile {
         }
     }
 
-    /// Removes the socket's file, if the path still leads to this socket, and frees the path. The socket must still be open.
+    /// Removes the socket file, if the path still leads to this socket, and releases the path. The socket must still be open.
     pub fn remove<H: Files>(self, rt: &H) {
         if let Ok(found) = fs::symlink_metadata(rt, &self.path) {
             if found.dev() == self.device && found.ino() == self.file {
@@ -74,7 +72,8 @@ fn bind<H: Files + Net>(rt: &H, path: &str) -> io::Result<UnixListener> {
     }
 }
 
-// Returns whether the file is a socket at which no program listens. No other server can have it, because this server has the lock.
+// Returns whether the file is a socket at which no program listens. No other server can be using it, because this server has the
+// lock.
 fn is_left_behind<H: Files + Net>(rt: &H, path: &str) -> bool {
     let Ok(found) = fs::symlink_metadata(rt, path) else {
         return false;

@@ -15,9 +15,9 @@ use Rattle.can_event.specs.declared.attempt.Tried.{Tried}
 use Rattle.can_event.specs.declared.attempt.Attempt.TheVariants as attempt
 
 -- The effect of an entry on the error counts of all interfaces (Bosch CAN Specification 2.0, fault confinement). An
--- attempt of a live interface changes the counts according to its faults. A restart sets the counts of one interface to
--- 0; an attempt does so for the interfaces that it restarts. An interface that is taken down keeps its counts and is
--- down.
+-- attempt by a live interface changes the counts according to its faults. A restart sets the counts of one interface to
+-- 0. An attempt also sets the counts to 0 for the interfaces that it restarts. An interface that is taken down keeps
+-- its counts and is down.
 
 -- the interface exists and is neither bus off nor down
 pub record IsLive (nodes : Nodes) (i : ℕ) : Type 0 where
@@ -25,7 +25,7 @@ pub record IsLive (nodes : Nodes) (i : ℕ) : Type 0 where
   pub there : i < nodes.count
   pub live : is_silent (state_of (counts_at nodes i)) ≡ false
 
--- the error counts after an attempt of this interface
+-- the error counts after an attempt by this interface
 abbrev pub judged_nodes : Nodes → ℕ → Verdict → AckMode → Nodes
 judged_nodes nodes i v ack = record nodes { counters = (judged (attempt_between nodes i v ack)).counters }
 

@@ -6,7 +6,7 @@ use Rattle.can_bus.specs.Posts.{Post, posts_of}
 use Rattle.can_bus.specs.Queues.{candidates_of}
 use Rattle.can_audit.specs.Histories.{BeforeEntry, ReturnsList}
 
--- The items that an entry posts, if a bus can have the entry after these entries (own choice).
+-- The items that an entry posts, if a bus can have this entry after the entries before it (own choice).
 
 -- the call returned the items that the entry posts at an interface
 abbrev pub ReturnsPosts : {G E : Type 0} → BusConfig → List Entry → ℕ → Entry → Result (Vec Post G) E → Type 0

@@ -11,10 +11,10 @@ use Rattle.can_record_text.specs.declared.version.Version.TheVariants as version
 use Rattle.can_record_text.specs.Spelling.{entry_line, needs_of}
 use Rattle.can_record_text.specs.Values.{HasLine}
 
--- The comparison of one entry's line with the reply of a bus.
+-- Compares one entry's line with the line for the reply of a bus.
 
 -- This line begins with the line of the next legal entry, and the bus carried out the entry's event. `needs` is the set
--- of features that a version must have for this entry.
+-- of features that a version must have to allow this entry.
 pub record IsNext (c : BusConfig) (past : List Entry) (line : List ℕ) (needs : Needs) (bus : Lean) : Type 0 where
   pub entry : Entry
   pub rest : List ℕ
@@ -28,7 +28,7 @@ pub record IsWrongNext (c : BusConfig) (past : List Entry) (e : Entry) (legal : 
   pub wrong : (c.limit ≤ length past) ⊎ (e.reply ≢ legal_reply c past e.event)
   pub is_allowed : legal ≡ allowed_after c (length past) past e.event
 
--- If this line is the line of an entry, the entry is wrong.
+-- If this line is the line of an entry, that entry is wrong.
 abbrev pub IsOther : BusConfig → List Entry → List ℕ → Option Reply → Type 0
 IsOther c past line legal =
     (v : Version) (e : Entry) (rest : List ℕ) → HasLine v c e → line ≡ entry_line e rest

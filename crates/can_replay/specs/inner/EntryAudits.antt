@@ -10,9 +10,9 @@ use Rattle.can_replay.specs.Audits.{IsToldWrong}
 use Rattle.can_replay.specs.declared.entry_audit.EntryAudit.{EntryAudit}
 use Rattle.can_replay.specs.declared.text_fault.WrongLine.{WrongLine}
 
--- The facts about the lines after the first line.
+-- What is known about the lines after the first line.
 
--- `w` describes the first wrong entry, with the bus's limit of entries.
+-- `w` contains the first wrong entry and the bus's limit of entries.
 pub record IsWrongIn (c : BusConfig) (entries : List Entry) (w : WrongLine) : Type 0 where
   pub told : IsToldWrong c entries w.place w.legal
   pub entry : w.entry ≡ told.first.entry
@@ -23,7 +23,7 @@ abbrev pub IsSettled : BusConfig → List Entry → Option WrongLine → Type 0
 IsSettled c entries None = IsLegal c (reverse entries)
 IsSettled c entries (Some w) = IsWrongIn c entries w
 
--- The text of the first two lines and the lines of these entries, with the end line if the flag is true.
+-- The text of the first two lines and the lines of these entries. If the flag is true, the end line follows.
 abbrev pub so_far : Bool → Version → BusConfig → List Entry → List ℕ
 so_far false v c entries = front_lines v c (entry_lines entries [])
 so_far true v c entries = text_in v c entries
@@ -37,13 +37,13 @@ pub record IsRead (text : List ℕ) (b : EntryAudit) : Type 0 where
   pub needs : b.needs ≡ all_needs entries
   pub settled : IsSettled b.config entries b.wrong
 
--- The audit has read the lines of this text. While they were legal, the bus carried out their entries.
+-- The audit has read the lines of this text. The bus carried out their entries for as long as they were legal.
 pub record IsGoing (text : List ℕ) (b : EntryAudit) : Type 0 where
   pub read : IsRead text b
   pub config : b.is_ended ≡ false → b.bus.config ≡ b.config
   pub is_after : b.is_ended ≡ false → b.wrong ≡ None → IsAfter b.bus (reverse read.entries)
 
--- The first two lines were read, and no entry.
+-- The first two lines were read, but no entry yet.
 pub record IsBegun (v : Version) (line : List ℕ) (b : EntryAudit) : Type 0 where
   pub going : IsGoing (first_line v ++ line) b
   pub none : going.read.entries ≡ []

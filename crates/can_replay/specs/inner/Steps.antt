@@ -36,7 +36,7 @@ ReportsWrong old new line legal (Err unread.NoMemory) = Unit {0}
 abbrev pub IsEndLine : ℕ → List ℕ → Type 0
 IsEndLine count line = StartsWith (spell (end_words count) []) line
 
--- The fault of a line that should be the end line: the line is bad, or there was no memory.
+-- The fault of a line that should be the end line: the line is invalid, or memory was refused.
 abbrev pub IsUnended : ℕ → List ℕ → ReadFault → Type 0
 IsUnended count line (fault.BadLine n) = (n ≡ count + 3) × LacksEnd count line
 IsUnended count line fault.NoMemory = Unit {0}

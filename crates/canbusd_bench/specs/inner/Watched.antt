@@ -4,8 +4,8 @@ use Rattle.std.specs.List.{fold}
 
 -- The state of a watcher, given the bytes that it wrote.
 
--- how many of the last bytes begin the text `< error `, after one more byte; the number is 9 once a small letter has
--- followed the whole text
+-- how many of the last bytes may begin the string `< error `, after one more byte; the result is 9 once a lower-case
+-- letter has followed the whole string
 abbrev pub seen_after : ℕ → ℕ → ℕ
 seen_after seen b =
     if seen == 9 then 9
@@ -14,16 +14,17 @@ seen_after seen b =
     else if get_or (codes "< error ") seen 60 == b then seen + 1
     else 0
 
--- the number of `seen_after` after several more bytes
+-- the result of `seen_after` after several more bytes
 abbrev pub seen_in : ℕ → List ℕ → ℕ
 seen_in seen text = fold seen_after seen text
 
--- whether the last `written` bytes of a text lead to the count `seen`
+-- whether `seen` is the count after the last `written` bytes of a text
 abbrev pub saw : ℕ → ℕ → List ℕ → Bool
 saw written seen text = nat_le written (length text) && (seen_in 0 (drop (length text - written) text) == seen)
 
--- the bytes of a watcher's writer as the watcher knows them, after two fixed numbers. The first number names the
--- writer. The second is 0 if the watcher is off; otherwise it is one more than the number of bytes at its start.
+-- the bytes of a watcher's writer as far as the watcher knows them, preceded by two numbers. The first number
+-- identifies the writer. The second is 0 if the watcher is off; otherwise it is one more than the number of bytes when
+-- it started.
 abbrev pub told : ℕ → Bool → ℕ → ℕ → Option (List ℕ) → Option (List ℕ)
 told name is_on written seen None = None
 told name false written seen (Some text) = Some (name ∷ 0 ∷ text)

@@ -13,7 +13,7 @@ use Rattle.can_frame.specs.contracts.fd_flags.FdFlagsPartialEq.TheImpl as flags
 use Rattle.can_frame.specs.contracts.frame.FramePartialEq.TheImpl as frames
 use Rattle.can_replay.proofs.same.same_frame.Goals as goal
 
--- ---- the parts of a frame
+-- ---- the fields of a frame
 
 and_both : (a b : Bool) → a ≡ true → b ≡ true → (a && b) ≡ true
 and_both true b h k = k
@@ -35,7 +35,7 @@ one_flags f g h = search rules
 own_flags : (f : FdFlags) → flags.ghosts.eq f f ≡ true
 own_flags f = search rules
 
--- The bytes as a frame stores them.
+-- The payload bytes as a frame stores them.
 abbrev filled : List ℕ → List ℕ
 filled xs = xs ++ replicate (64 - length xs) 0
 

@@ -50,7 +50,7 @@ returns-in-Err-clause-before c =
           (subst (λ (n : ℕ). (text after : List ℕ) → AreTaken text c.loop-place.audit → IsLine (take n (drop len held)) → MayFollow (take n (drop len held)) after → Reads (text ++ (take n (drop len held) ++ after)) (Err c.in-Err.fault)) size c.in-Err.ensures.fault),
     )
 
--- the bus became known
+-- the bus of the record is now known
 pub returns-then-learned_bus-clause-taken : goal.returns-then-learned_bus-clause-taken
 returns-then-learned_bus-clause-taken c = λ none.
     let held = c.args.held.now in

@@ -69,8 +69,7 @@ returns-in-Err-clause-written g c = λ w start.
     inr (leaves_unread w c.args.ifaces (g.R.Read.remaining c.args.input.now) (g.R.Read.remaining c.loop.input) c.args.audit.now.events c.loop.audit c.read_failure.result.error g.W.Write.contents c.args.output.now c.loop.output (sym c.loop.invariant.asked)
     c.loop.invariant.none c.loop.invariant.fits (c.loop.invariant.put w start) c.read_failure.ensures)
 
--- the buffered lines were taken and their events were to be written, but the bus is not the wanted one or the writer
--- failed
+-- the buffered lines were taken and their events had to be written, but the bus is not the wanted one or writing failed
 pub returns-in_err-put_known-in-Ok-Lines-clause-fault : goal.returns-in_err-put_known-in-Ok-Lines-clause-fault
 returns-in_err-put_known-in-Ok-Lines-clause-fault g c =
     let w = c.requires.written.0 in

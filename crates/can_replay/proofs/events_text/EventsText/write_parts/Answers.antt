@@ -11,7 +11,7 @@ when_ok : {A E : Type 0} (P : Type 0) (r : Result A E) (now more before : List �
 when_ok P (Ok a) now more before is f = f is
 when_ok P (Err e) now more before is f = tt
 
--- If nothing is wanted, no rule is asked.
+-- If no additional parts are wanted, no fault rule is queried.
 none_asked : (w : Wanted) (e : Entry) → w ≡ nothing_wanted → w ≡ record w { faults = asked_of w.faults e }
 unfolding asked_of
 none_asked w e is = is ∙ ap (λ (x : Wanted). record x { faults = asked_of x.faults e }) (sym is)

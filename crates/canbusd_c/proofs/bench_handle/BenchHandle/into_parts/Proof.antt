@@ -1,4 +1,4 @@
--- `into_parts` moves the pointer and the allocator, and with them everything that the handle owns. Assumes `Logic`.
+-- `into_parts` moves the pointer and the allocator, together with everything that the handle owns. Assumes `Logic`.
 use Rattle.std.proofs.Common.{◌≡◌, List, [], ◌∷◌, ◌++◌, refl, sym, ap, ◌∙◌, subst}
 use seplogic.Ra.Ura.{Ura}
 use mir.Syntax.{impl, tnil, dnil}

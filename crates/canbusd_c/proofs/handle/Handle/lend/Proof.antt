@@ -1,4 +1,4 @@
--- `lend` lends the bus behind the handle, and the handle follows it. Assumes `Logic`.
+-- `lend` lends the bus to which the handle points. When the borrow ends, the handle has the new bus. Assumes `Logic`.
 use Rattle.std.proofs.Common.{◌≡◌, ℕ, List, [], ◌∷◌, refl, sym, ap, ◌∙◌}
 use Rattle.std.proofs.raw_atomic.Walks.{proved}
 use seplogic.Ra.Ura.{Ura}

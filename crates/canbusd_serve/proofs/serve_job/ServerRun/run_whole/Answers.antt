@@ -6,7 +6,7 @@ use Rattle.canbusd_serve.proofs.Serving.{put-lines}
 use Rattle.canbusd_serve.proofs.serve_job.ServerRun.run_whole.Goals as goal
 use Rattle.canbusd_serve.proofs.serve_job.ServerRun.run_whole.Goals.{in-Some, in_default}
 
--- the line of a record about its bus
+-- the configuration and the history of a record, as a journal
 abbrev journal : Kept → Journal
 journal r = record { config = r.config; history = r.history }
 
