@@ -141,7 +141,7 @@ def test_layers():
         number, room = rooms[name.split(".")[1]]
         for layer, other_room, other in ((*rooms[other.split(".")[1]], other) for other in others):
             assert layer < number or other_room == room, f"{name} imports {other}, which is of a layer above it"
-    # static_order() and prepare() raise CycleError if modules import one another.
+    # prepare() raises CycleError if modules import one another.
     graphlib.TopologicalSorter(found).prepare()
 
 

@@ -105,7 +105,7 @@ def test_signals_are_found_by_parts_of_their_names(shown):
 
 @pytest.mark.parametrize("width", [500, 1200])
 def test_lanes_of_signals(shown, width):
-    """A band shows the names of its values, and a curve its smallest and largest value. The button with a lane's name removes the
+    """A band shows the names of its values, and a curve its smallest and largest value. A click on a lane's name removes the
     lane."""
     shown.size(width)
     shown.run("[...at('gutter').querySelectorAll('button.goes')].forEach(button => button.click())")
