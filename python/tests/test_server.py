@@ -558,8 +558,7 @@ def test_a_server_that_many_threads_stop(server):
 
 @pytest.fixture
 def launcher(tmp_path):
-    """The program as it is installed: a script in bin/ that starts servers and the commands of Python, and stand-ins for other
-    programs."""
+    """The bin/ folder of an installation: its script starts the program, the launcher of servers, and Python's commands."""
     place = tmp_path / "libexec" / "canbusd"
     place.mkdir(parents=True)
     (tmp_path / "bin").mkdir()

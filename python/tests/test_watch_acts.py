@@ -225,7 +225,7 @@ class Interface:
 
 
 def test_what_each_act_asks_the_interface_for(monkeypatch):
-    """The stand-in has an interface of a server that knows all these messages."""
+    """Each action calls the right method of the bus, as on a server that knows all of these messages."""
     bus = Interface()
     monkeypatch.setattr("canbusd._page.acts.CanbusdBus", lambda *_, **__: bus)
     acts = Acts(["can0"], None)

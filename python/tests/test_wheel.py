@@ -37,7 +37,7 @@ def wheel(request):
 
 @pytest.fixture
 def environment(tmp_path):
-    """A virtual environment in a new folder whose PATH has no canbusd. It uses the system's python-can and pip."""
+    """A virtual environment in a new folder, without variables that name a program. It uses the system's python-can and pip."""
     done(sys.executable, "-m", "venv", "--system-site-packages", "--without-pip", tmp_path / "venv")
     kept = {name: value for name, value in os.environ.items() if not name.startswith(("CANBUSD", "PYTHON"))}
 

@@ -207,7 +207,7 @@ def test_a_link_that_somebody_makes_meanwhile_is_not_followed(tmp_path, drafts):
 
 
 def test_a_folder_that_is_moved_meanwhile(tmp_path, drafts):
-    """If the folder is moved and a link takes its place, the file is still written into the moved folder."""
+    """If the folder is moved and a link takes its place, the file is written into the moved folder, not through the link."""
     for name in ("folder", "other"):
         (tmp_path / name).mkdir()
     (tmp_path / "other" / "file").write_bytes(b"other")
