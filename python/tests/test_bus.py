@@ -181,7 +181,7 @@ def test_reported_faults():
     with Server("can0,can1", faults=Faults().destroyed(0), report=True) as server:
         with server.bus("can0") as can0, server.bus("can1") as can1:
             can0.send(message(0x123))
-            # PROT and BUSERROR: a bit error in the data section at the sender, and a stuff error at the receiver.
+            # The class is PROT and BUSERROR. The sender reports a bit error in the data section, and the receiver a stuff error.
             assert shape(can0.recv(WAIT)) == error(0x088, "0000810A00000000")
             assert shape(can1.recv(WAIT)) == error(0x088, "0000040000000000")
 

@@ -144,7 +144,7 @@ def test_what_is_not_given_is_as_it_starts(rest):
 
 def test_multiplexers_of_multiplexers(library, tmp_path):
     deep = load_database(written(tmp_path, MULTIPLEXERS), library=library)
-    # (2 + 40) / 2 is 15.
+    # (2 + 40) / 2 is 15 in hexadecimal.
     assert str(deep.encode("Deep", {"outer": 0, "inner": 1, "deep": 2})) == "200#0001150000000000"
     assert str(deep.encode("Deep", {"outer": 5, "wide": 9})) == "200#0509000000000000"
     assert str(deep.decode(Frame.parse("200#0001150000000000"))) == "Deep: outer=0, inner=1, deep=2"

@@ -144,8 +144,8 @@ def test_what_can_be_observed(observed):
 
 
 def test_all_interfaces_are_observed_without_a_word(pair, server):
-    """a frame that several interfaces receive counts once, and its channel is the first that receives it from
-    another"""
+    """A frame that several interfaces receive counts once. Its channel is the first interface that receives it from another
+    one."""
     can0, can1 = pair
     can0.send(message(0x123, [1]))
     can1.send(message(0x123, [2]))

@@ -204,7 +204,7 @@ def test_what_a_bench_does_not_take():
 
 @pytest.fixture
 def traffic():
-    """A server on whose bus a tester sends every 4 ms and an ECU every 5 ms, and the bus of the ECU."""
+    """A server, and the bus of an ECU. The ECU sends every 5 ms, and a tester sends every 4 ms."""
     with Server("ecu,tester") as server, server.bus("ecu") as ecu, server.bus("tester") as tester:
         tester.send_periodic(message(TESTER), 0.004)
         ecu.send_periodic(message(ECU), 0.005)

@@ -30,7 +30,7 @@ def is_there(library):
 
 @pytest.fixture(params=["can-isotp", "canbusd-run", "canbusd"])
 def library(request):
-    """Each implementation; a test is skipped if it is not installed."""
+    """The ISO-TP libraries, one after the other. A test is skipped if its library is not installed."""
     if not is_there(request.param):
         pytest.skip(f"no {request.param}; Debian 12 has no package of can-isotp")
     return request.param

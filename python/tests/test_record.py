@@ -1,4 +1,4 @@
-"""Records: the statements of docs/RECORD.md, and the events of their runs."""
+"""Records are as docs/RECORD.md describes them, and give the events of their runs."""
 
 import re
 from pathlib import Path

@@ -439,7 +439,7 @@ def test_threads_set_values(car):
         for thread in threads:
             thread.join()
         assert rest["Engine"]["EngineSpeed"] == 199
-        # 199 / 0.25 is 031C.
+        # 199 / 0.25 is 031C in hexadecimal.
         car.expect(id=DATA, data=bytes.fromhex("1c03000000000000"), within=WAIT)
 
 

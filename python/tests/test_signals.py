@@ -51,7 +51,7 @@ def test_what_a_frame_says(car):
     )
     assert [type(signal.value) for signal in found.signals] == [float, int, str, int]
     assert str(found) == "Engine: speed=120.5 km/h, temperature=20 degC, gear=Drive, torque=-10 Nm"
-    # The number has no name.
+    # This number of gear has no name.
     assert decoded(car, "123#0000000600000000").endswith("gear=6, torque=0 Nm")
 
 

@@ -46,7 +46,7 @@ def test_a_cyclic_message(server, can0):
 def bit_times(identifier):
     """Returns the number of bits of a data frame without data, from start of frame to the end of intermission, by ISO 11898-1: with
     CRC and stuff bits."""
-    # Start of frame, identifier, RTR, IDE, a reserved bit, and four bits of the DLC.
+    # These are the start of frame, the identifier, RTR, IDE, a reserved bit and four bits of the DLC.
     bits, crc = f"0{identifier:011b}0000000", 0
     for bit in bits:
         crc = ((crc << 1) ^ (0x4599 if crc >> 14 != int(bit) else 0)) & 0x7FFF
@@ -56,7 +56,7 @@ def bit_times(identifier):
         last = bit
         if run == 5:
             stuffed, run, last = stuffed + 1, 1, "10"[int(bit)]
-    # CRC delimiter, acknowledgement and its delimiter, end of frame, intermission.
+    # After the CRC come its delimiter, the ACK slot and its delimiter, the end of frame and the intermission.
     return len(bits) + 15 + stuffed + 1 + 2 + 7 + 3
 
 

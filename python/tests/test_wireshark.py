@@ -24,7 +24,7 @@ DIRECTIONS = {"": "", "1": "in", "2": "out"}
 
 
 def read(path):
-    """Returns the frames of a capture: interface, direction, time, and the frame in candump's spelling."""
+    """Returns the frames of a capture: interface, direction, time, and the frame in candump's notation."""
     words = [word for name in f"{FIELDS} {FIELDS_OF_FD}".split() for word in ("-e", name)]
     written = subprocess.check_output(
         ["tshark", "-r", path, "-T", "fields", *words], stderr=subprocess.DEVNULL, text=True
@@ -239,7 +239,7 @@ def test_in_the_list_of_wireshark(home, tmp_path):
     with Server("can0,can1") as server, server.bus("can0") as can0:
         every = ["canbusd (canbusd: all interfaces)", "canbusd-can0 (canbusd: can0)", "canbusd-can1 (canbusd: can1)"]
         assert listed(CANBUSD_ADDRESS=server.address) == every
-        # The server is an option of the capture.
+        # The address of the server is an option of the capture.
         words = ["tshark", "-i", "canbusd", "-o", f"extcap.canbusd.address:{server.address}", "-c", "20", "-w", path]
         elsewhere = {**environment(), "HOME": str(home), "CANBUSD_ADDRESS": str(tmp_path / "none")}
         child = subprocess.Popen(words, env=elsewhere, stderr=subprocess.PIPE)

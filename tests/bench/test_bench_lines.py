@@ -123,7 +123,7 @@ def test_lines_that_are_carried_out(line, lines, written):
 
 
 def test_error_message_frames_are_no_refusals():
-    """nor are notes"""
+    """Neither error message frames nor notes count as refusals."""
     masks = "< errmask 1FFFFFFF >< errdata 1 >"
     text = f"session 1\nfeed 1 < open can0 >< rawmode >{masks}< send 123 0 >\nattempt\ndrain 1\nfeed 1 x\n"
     errors = "note: session 1: bytes outside < and > were skipped\n"

@@ -21,7 +21,7 @@ pytestmark = pytest.mark.skipif(not shutil.which(COMPILER), reason=f"no C compil
 
 @pytest.fixture
 def other(request, tmp_path):
-    """The other program."""
+    """The independent program, compiled."""
     source = request.config.getoption("other")
     program = tmp_path / "other"
     subprocess.run([COMPILER, "-O2", "-march=native", "-o", program, source], check=True)

@@ -21,7 +21,7 @@ def up_to(most: int) -> str:
 IFACE, SOCKET, COUNT = up_to(15), up_to((1 << 32) - 1), up_to((1 << 64) - 1)
 SET = "[0-9A-F]{4}"
 WORD = "[0-9A-F]{8}"
-# Matches a word without bit 29.
+# Matches a word whose bit 29 is 0.
 MASK = "[014589CD][0-9A-F]{7}"
 MOMENT = r"(?:0|[1-9][0-9]{0,9})\.[0-9]{6}"
 VERDICT = f"(?:good|global-bit|global-form|lastbit|local-(?:stuff|crc|form):{SET})"

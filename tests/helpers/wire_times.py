@@ -102,7 +102,7 @@ def attempt_bits(frame: Frame, ending: Ending) -> tuple[int, int]:
     return nominal + 12 + ERROR_DELIMITER + INTERMISSION, fast
 
 
-# ---- a bus by priority
+# ---- the simulation of a bus
 
 
 @dataclasses.dataclass(frozen=True)
@@ -150,7 +150,7 @@ def simulated(releases: Iterable[Release], rates: Rates) -> Iterator[Sent]:
         now = free
 
 
-# ---- response times by analysis
+# ---- the analysis of response times
 
 
 @dataclasses.dataclass(frozen=True)

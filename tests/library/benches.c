@@ -201,7 +201,7 @@ static void benches_are_apart(void) {
     }
 }
 
-/* Standard input whole. */
+/* Returns all of standard input. */
 static char *input(size_t *len) {
     char *text = NULL;
     size_t room = 0, more;
