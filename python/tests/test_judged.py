@@ -11,8 +11,7 @@ from canbusd.frames import Frame
 
 
 def frames(*lines):
-    """Returns received frames. A line is `0.100000 123 1122`: time, identifier and data, after another kind than `frame`, such as
-    `error`."""
+    """Returns received frames. A line is `0.100000 123 1122`: time, identifier and data. `error` may come before the time."""
     received = Received([["a"]], ["a"])
     for line in lines:
         *kind, moment, identifier, data = line.split(" ")
