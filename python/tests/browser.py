@@ -8,7 +8,7 @@ import time
 
 PROGRAM = shutil.which("chromium") or shutil.which("chromium-browser") or shutil.which("google-chrome")
 WAIT = 60
-# By the names of keys: their codes, and the text that they type.
+# The key codes and the typed texts, by the names of the keys.
 CODES = {
     "ArrowLeft": 37,
     "ArrowUp": 38,
@@ -21,7 +21,8 @@ CODES = {
     "Escape": 27,
 }
 TEXTS = {"Enter": "\r"}
-# Python's ends of the browser's file descriptors 3 and 4: the browser reads commands from 3 and writes replies to 4.
+# The shell script gives the browser Python's ends of the pipes as file descriptors 3 and 4: it reads commands from 3, and writes
+# replies to 4.
 LAUNCH = 'exec "$0" "$@" 3<&{} 4>&{}'
 
 
@@ -47,7 +48,7 @@ class Browser:
             self.ask(f"{domain}.enable")
 
     def ask(self, method, **params):
-        """Sends a command to the browser; returns its reply."""
+        """Sends a command to the browser, and returns the reply."""
         self.number += 1
         data = json.dumps({"id": self.number, "method": method, "params": params, **self.page}).encode() + b"\0"
         while data:
@@ -70,32 +71,32 @@ class Browser:
         return json.loads(message)
 
     def size(self, width, height=900, dark=False):
-        """Sets the size of the window, and the dark or light colours."""
+        """Sets the size of the window, and chooses dark or light colours."""
         self.ask("Emulation.setDeviceMetricsOverride", width=width, height=height, deviceScaleFactor=1, mobile=False)
         scheme = {"name": "prefers-color-scheme", "value": "dark" if dark else "light"}
         self.ask("Emulation.setEmulatedMedia", features=[scheme])
         self.settle()
 
     def open(self, address):
-        """Opens a page, and waits until it is drawn."""
+        """Opens a page, and waits until the page is drawn."""
         self.ask("Page.navigate", url="about:blank")
         self.ask("Page.navigate", url=address)
         self.until("document.body?.dataset.drawn !== undefined")
 
     def until(self, condition):
-        """Waits for a condition."""
+        """Waits until a condition in the page holds."""
         deadline = time.monotonic() + WAIT
         while not self.run(condition):
             assert time.monotonic() < deadline, condition
 
     def run(self, script):
-        """Returns the value of an expression, which may be a promise."""
+        """Returns the value of an expression in the page; the expression may be a promise."""
         done = self.ask("Runtime.evaluate", expression=script, returnByValue=True, awaitPromise=True)
         assert "exceptionDetails" not in done, done
         return done["result"].get("value")
 
     def settle(self):
-        """Waits for two frames of the browser, so that all changes are drawn."""
+        """Waits for two animation frames, so that all changes are drawn."""
         self.run("new Promise(done => requestAnimationFrame(() => requestAnimationFrame(done)))")
 
     def key(self, key):

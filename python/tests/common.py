@@ -1,4 +1,4 @@
-"""Functions and data that the tests of buses and servers share, besides their fixtures."""
+"""Functions and data that the tests of buses and servers share."""
 
 import subprocess
 from pathlib import Path
@@ -11,9 +11,9 @@ from canbusd.bench import Bench
 from canbusd.server import Server
 
 PYTHON = Path(__file__).resolve().parents[1]
-#: Seconds in which an awaited event comes, on any machine.
+#: The timeout in seconds for any awaited event, long enough for a slow machine.
 WAIT = 60
-#: A database of two nodes, one of which sends every 10 ms.
+#: A database with two nodes, one of which sends a message every 10 ms.
 DBC = """VERSION ""
 BU_: Engine ECU
 BO_ 256 EngineData: 4 Engine
@@ -25,14 +25,14 @@ BA_DEF_DEF_ "GenMsgCycleTime" 0;
 BA_ "GenMsgCycleTime" BO_ 256 10;
 """
 
-#: Makes a fixture from a function: a test runs with each kind of bus, which has a class and a bit rate.
+#: Turns a function into a fixture, so that a test runs once with each kind of bus: a bus class and a bit rate.
 on_each_kind = pytest.fixture(
     params=[(Server, 500_000), (Bench, 500_000), (Bench, None)], ids=["server", "bench", "bench without a bit rate"]
 )
 
 
 def writes_live():
-    """Returns whether the program writes records while it runs."""
+    """Returns whether the program can write records during a run."""
     words = [find_program(), "serve", "--help"]
     return b"--record" in subprocess.run(words, stdout=subprocess.PIPE, check=True).stdout
 
@@ -41,11 +41,11 @@ needs_live = pytest.mark.skipif(not writes_live(), reason="the program is older 
 
 
 def message(identifier, data=b"", extended=False, **more):
-    """Returns a python-can message, with 11 bits unless the caller asks otherwise."""
+    """Returns a python-can message, with an 11-bit identifier by default."""
     return can.Message(arbitration_id=identifier, data=data, is_extended_id=extended, **more)
 
 
 def shape(received):
-    """Returns the facts that equal messages share, without the timestamp."""
+    """Returns the fields that equal messages share: all but the timestamp."""
     kinds = received.is_extended_id, received.is_remote_frame, received.is_error_frame, received.is_fd
     return received.arbitration_id, bytes(received.data), received.dlc, *kinds

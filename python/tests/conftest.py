@@ -1,4 +1,4 @@
-"""The fixtures of the tests of buses and servers."""
+"""Fixtures for the tests of buses and servers."""
 
 import importlib.util
 import os
@@ -16,12 +16,12 @@ from common import PYTHON
 from few_at_a_time import pytest_xdist_make_scheduler  # noqa: F401
 from made_once import made_once
 
-# Programs that the tests start use the package of the tests, and the program that fits the sources.
+# Programs that the tests start use the package under test, and the program that was built from these sources.
 os.environ["PYTHONPATH"] = os.path.dirname(importlib.util.find_spec("canbusd").submodule_search_locations[0])
 
 
 def fitting(kind):
-    """The path of a file that fits the sources, if there is one: of the program, of the library."""
+    """Returns the path of the program or the library that was built from these sources, or the empty text if there is none."""
     words = [PYTHON.parent / "scripts" / kind, "fitting"]
     found = subprocess.run(words, stdout=subprocess.PIPE, text=True, check=False).stdout.strip()
     return str(PYTHON.parent / found) if found else ""
@@ -29,18 +29,18 @@ def fitting(kind):
 
 if "CANBUSD" not in os.environ:
     os.environ["CANBUSD"] = fitting("program") or find_program()
-# Without one benches are processes.
+# If the library has not been built, benches are processes.
 os.environ.setdefault("CANBUSD_LIBRARY", fitting("library"))
 
 
 def pytest_addoption(pluginmanager):
-    """Adds the plugin's options if the package is not installed, because pytest has then not found the plugin."""
+    """Registers the plugin's options: if the package is not installed, pytest has not found the plugin by itself."""
     pluginmanager.import_plugin("canbusd.pytest_plugin")
 
 
 @pytest.fixture(scope="session")
 def browser(tmp_path_factory):
-    """A browser that opens pages one after the other."""
+    """A browser that opens one page after the other."""
     browser = Browser(tmp_path_factory.mktemp("browser"))
     yield browser
     browser.close()
@@ -76,7 +76,7 @@ def install(folder):
 
 @pytest.fixture(scope="session")
 def installed(request):
-    """The environment of a process that finds the package as pip installs it, with its entry points."""
+    """The environment of a process that uses the package as pip installs it, with its entry points."""
     place = made_once(request, "installed", install) / "target"
     given = {"PYTHONPATH": str(place), "CANBUSD_RUN": find_program("canbusd-run")}
     return {**os.environ, **given, "PYTHONWARNINGS": "ignore", "PYTHONUNBUFFERED": "1"}

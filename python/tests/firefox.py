@@ -9,20 +9,20 @@ import time
 
 PROGRAM = shutil.which("firefox-esr") or shutil.which("firefox")
 WAIT = 60
-# By the names of keys: their characters, as WebDriver has them.
+# The characters of keys in WebDriver, by the names of the keys.
 KEYS = {"Tab": "\ue004", "Enter": "\ue007", "Escape": "\ue00c", "ArrowDown": "\ue015", "ArrowRight": "\ue014"}
 SETTINGS = """user_pref("marionette.port", 0);
 user_pref("browser.shell.checkDefaultBrowser", false);
 user_pref("datareporting.policy.dataSubmissionEnabled", false);
 user_pref("app.update.enabled", false);
 """
-# The errors in pages, without warnings.
+# Returns the errors of pages, without warnings.
 FAULTS = """return Services.console.getMessageArray().filter(one => one instanceof Ci.nsIScriptError
   && !(one.flags & (Ci.nsIScriptError.warningFlag | Ci.nsIScriptError.infoFlag)) && one.sourceName.startsWith('file:')).map(one => `${one.sourceName}:${one.lineNumber}: ${one.errorMessage}`)"""
 
 
 class Firefox:
-    """One page of a browser."""
+    """A page of the browser."""
 
     def __init__(self, folder):
         (folder / "user.js").write_text(SETTINGS, encoding="ascii")
@@ -41,7 +41,7 @@ class Firefox:
         self.ask("WebDriver:NewSession")
 
     def ask(self, command, **params):
-        """Has the browser do something; its reply."""
+        """Sends a command to the browser, and returns the reply."""
         self.number += 1
         text = json.dumps([0, self.number, command, params]).encode()
         self.socket.sendall(b"%d:%b" % (len(text), text))
@@ -50,7 +50,7 @@ class Firefox:
         return found
 
     def message(self):
-        """The next message of the browser: its length, a colon and its JSON."""
+        """Returns the next message of the browser, which is sent as its length, a colon and JSON."""
         size = b""
         while not size.endswith(b":"):
             one = self.stream.read(1)
@@ -59,22 +59,22 @@ class Firefox:
         return json.loads(self.stream.read(int(size[:-1])))
 
     def run(self, script):
-        """The value of an expression in the page."""
+        """Returns the value of an expression in the page."""
         return self.ask("WebDriver:ExecuteScript", script=f"return window.eval({json.dumps(script)})", args=[])["value"]
 
     def in_browser(self, script):
-        """The value that a script of the browser itself returns."""
+        """Runs a script in the browser itself, and returns its value."""
         self.ask("Marionette:SetContext", value="chrome")
         found = self.ask("WebDriver:ExecuteScript", script=script, args=[])["value"]
         self.ask("Marionette:SetContext", value="content")
         return found
 
     def faults(self):
-        """The errors in pages so far."""
+        """Returns the errors of pages so far."""
         return self.in_browser(FAULTS)
 
     def size(self, width, height=900, dark=False):
-        """Sets the size of the page, and whether colours are dark."""
+        """Sets the size of the page, and chooses dark or light colours."""
         setting = "layout.css.prefers-color-scheme.content-override"
         self.in_browser(f"Services.prefs.setIntPref('{setting}', {0 if dark else 1})")
         more = [width, height]
@@ -87,18 +87,18 @@ class Firefox:
         self.until(f"matchMedia('(prefers-color-scheme: dark)').matches === {str(dark).lower()}")
 
     def open(self, address):
-        """Opens a page, and waits until it has drawn itself."""
+        """Opens a page, and waits until the page is drawn."""
         self.ask("WebDriver:Navigate", url=address)
         self.until("document.body?.dataset.drawn !== undefined")
 
     def until(self, condition):
-        """Waits for a condition."""
+        """Waits until a condition in the page holds."""
         deadline = time.monotonic() + WAIT
         while not self.run(condition):
             assert time.monotonic() < deadline, condition
 
     def settle(self):
-        """Waits for two frames, after which what was due is drawn."""
+        """Waits for two animation frames, so that all changes are drawn."""
         script = "const done = arguments[0]; requestAnimationFrame(() => requestAnimationFrame(() => done()))"
         self.ask("WebDriver:ExecuteAsyncScript", script=script, args=[])
 

@@ -1,5 +1,4 @@
-"""The time of frames on the wire, from the model of the repository's tests: tests/helpers/wire_model.py and
-wire_times.py."""
+"""The duration of frames on the wire, by the model of the repository's tests: tests/helpers/wire_model.py and wire_times.py."""
 
 import sys
 from pathlib import Path
@@ -11,6 +10,7 @@ from wire_times import Rates  # noqa: E402
 
 
 def nanos_of(text, bitrate, dbitrate=None):
-    """Returns the nanoseconds of a frame, and of its successful attempt, which ends when the next attempt may begin."""
+    """Returns two durations in nanoseconds: of a frame, and of its successful attempt, which ends when the next attempt may begin.
+    """
     rates, frame = Rates(bitrate, dbitrate), Frame.read(text)
     return rates.frame_nanos(frame), rates.attempt_nanos(frame)

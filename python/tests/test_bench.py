@@ -1,5 +1,5 @@
-"""The bench in a dialogue, as a process and inside this one. What is expected is what the rules of the bus give (Bosch CAN 2.0,
-linux/can/error.h)."""
+"""The bench in a dialogue, as a process and inside this process. The expected results follow from the rules of the bus (Bosch CAN
+2.0, linux/can/error.h)."""
 
 import os
 import threading
@@ -16,7 +16,7 @@ from canbusd.frames import Frame
 
 @pytest.fixture(autouse=True, params=["process", "inside"])
 def kind(request, monkeypatch):
-    """The tests are of both kinds of bench."""
+    """Runs each test with both kinds of bench."""
     if request.param == "process":
         monkeypatch.setenv("CANBUSD_LIBRARY", "")
     elif not is_used():
@@ -156,7 +156,7 @@ def test_an_automatic_restart():
     with bench:
         sender.send(0x123)
         assert bench.run()[-1].off == ("can0",)
-        # run() ended at the first idle attempt, which is the first of the three.
+        # run() ended after the first idle attempt, so this attempt is the second of the three.
         assert bench.attempt() is None
         back = bench.attempt()
         assert (back.outcome, back.winner, back.restarted) == ("idle", "", ("can0",))
@@ -164,12 +164,12 @@ def test_an_automatic_restart():
 
 
 def test_a_fault_that_one_receiver_sees():
-    """can2 becomes error passive, and after that can't destroy the frame that it misses."""
+    """After can2 becomes error passive, it can't destroy a frame that it misses."""
     faults = Faults().local("crc", ["can2"], range(200))
     with Bench("can0,can1,can2", faults=faults, ack="peers") as bench:
         sender, other, victim = (bench.open(name, error_frames=False) for name in bench.names)
         for _ in range(4):
-            # Each destroyed frame is a fault for the sender too.
+            # For the sender, each destroyed frame is an error too.
             sender.send(0x100)
             attempts = bench.run()
             assert [attempt.outcome for attempt in attempts] == ["destroyed"] * 32
@@ -238,7 +238,7 @@ def test_options_of_a_session():
 
 
 def test_refusals():
-    # An open and an option of each session, and a refused open is no event.
+    # The four entries are an open and an option of each session. A refused open is no entry.
     bench, sender, receiver = pair(limit=4)
     with bench:
         with pytest.raises(Refused, match="^no such interface 'can7'; the bench has can0, can1$"):
@@ -322,7 +322,7 @@ def test_an_echo_keeps_the_bench_in_step():
 
 
 def test_messages_that_are_too_long():
-    # A message has at most 1,024 bytes between < and >.
+    # A message has at most 1,024 bytes between `<` and `>`.
     bench, sender, _ = pair()
     with bench:
         assert sender.call("echo".ljust(1022)) == ["echo"]
@@ -388,7 +388,7 @@ def test_threads_share_a_bench():
 @of_a_process
 def test_an_interrupted_call_ends_the_dialogue_and_keeps_the_run(monkeypatch):
     def interrupt(*_):
-        """What Ctrl-C does while the bench is waited for, unless SIGINT is ignored, as in a job in the background."""
+        """Acts like Ctrl-C during a wait for the bench. A real SIGINT may be ignored, as in a background job."""
         raise KeyboardInterrupt
 
     bench, sender, receiver = pair()
@@ -406,7 +406,7 @@ def test_an_interrupted_call_ends_the_dialogue_and_keeps_the_run(monkeypatch):
 
 
 def test_the_end_of_the_input():
-    """The program takes 16777216 bytes. What does not fit is not begun, and the run before it is kept."""
+    """The program reads at most 16777216 bytes. A line that does not fit is not written, and the run up to it is kept."""
     bench, sender, _ = pair()
     sender.send(0x123)
     assert bench.attempt().outcome == "done"
@@ -473,7 +473,7 @@ def test_a_forked_process_does_not_keep_a_bench_from_its_end():
     reader, writer = os.pipe()
     child = os.fork()
     if child == 0:
-        # It lives until the bench has ended.
+        # The child lives until the bench has ended.
         os.close(writer)
         os.read(reader, 1)
         os._exit(0)
@@ -497,7 +497,7 @@ def test_a_bench_that_says_nothing_is_given_up(monkeypatch, tmp_path):
 
 
 def test_which_bench_it_is(kind, monkeypatch):
-    """The library's, but for an empty CANBUSD_LIBRARY, and for a CANBUSD without it, whose program is meant."""
+    """A bench uses the library, unless CANBUSD_LIBRARY is empty, or only CANBUSD is set, which names a program."""
 
     def made():
         with Bench("can0") as bench:
@@ -517,7 +517,7 @@ def test_a_bench_that_has_ended():
 
 
 def test_record_audit_and_log(tmp_path):
-    """What the replay of the record gives is what the program said while it ran."""
+    """The replay of the record reports the same as the program did during the run."""
     runs = []
     for run in ("one", "two"):
         out = tmp_path / run
@@ -536,7 +536,7 @@ def test_record_audit_and_log(tmp_path):
         taken = [item.frame for item in record.items if item.interface == "can1" and item.fate == "taken"]
         assert taken == received
         assert bench.audit() == f"ok {len(record.lines)} entries"
-        # A failed attempt is an error frame in the log; a frame that arrived twice is in it twice.
+        # In the log a failed attempt is an error frame, and a frame that arrived twice has two lines.
         logged = [(one.is_error_frame, 0 if one.is_error_frame else one.arbitration_id) for one in bench.log()]
         assert logged == [
             (attempt.outcome == "destroyed", 0 if attempt.outcome == "destroyed" else int(attempt.frame[:3], 16))
@@ -548,7 +548,8 @@ def test_record_audit_and_log(tmp_path):
 
 
 def test_attempts_take_the_time_of_their_bits():
-    """000# has 50 bits: 34 zeros, 6 stuff bits and 10 at its end; 3 follow it, and after no acknowledgement 19 the CRC."""
+    """000# has 50 bits: 34 zeros, 6 stuff bits and 10 bits at its end. 3 bits of intermission follow; without an acknowledgement,
+    19 bits follow the CRC."""
     bench, sender, receiver = pair(bitrate=500_000)
     with bench:
         for _ in range(3):
@@ -566,7 +567,8 @@ def test_attempts_take_the_time_of_their_bits():
 
 
 def test_a_bit_rate_for_data():
-    """64 bytes 00 under 123: 27 bits at 1 Mbit/s, and 651 at 10 Mbit/s; without BRS 678 bits at 1 Mbit/s."""
+    """64 zero bytes with identifier 123 take 27 bits at 1 Mbit/s and 651 bits at 10 Mbit/s; without BRS they take 678 bits at 1
+    Mbit/s."""
     with Bench("can0", bitrate=1_000_000, dbitrate=10_000_000) as bench:
         session = bench.open("can0", fd=True)
         session.send(0x123, bytes(64), is_fd=True, bitrate_switch=True)
@@ -575,7 +577,7 @@ def test_a_bit_rate_for_data():
 
 
 def test_the_load_of_a_bench():
-    """45 bits of a frame under 123 without data, 3 of intermission: 9.6 ms at 5 kbit/s."""
+    """A frame with identifier 123 and no data has 45 bits and 3 bits of intermission: 9.6 ms at 5 kbit/s."""
     for rates, load in (({}, (0, 0, 0, 0)), ({"bitrate": 5_000}, (0, 9_600, 5_000, 5_000))):
         with Bench("can0", **rates) as bench:
             session = bench.open("can0")
@@ -588,7 +590,7 @@ def test_an_answer_of_another_program(monkeypatch):
     with Bench("can0") as bench:
         session = bench.open("can0")
         others = [("load", "load 0 0"), ("status", "status off"), ("stats", "ok"), ("faults", "stats 1")]
-        # Words that are no number, and no state.
+        # These answers have words that are neither numbers nor states.
         others += [("faults", "faults x"), ("status", "status off 1 -1"), ("status", "status idle 0 0")]
         for word, answer in others:
             monkeypatch.setattr(session, "call", lambda message: [answer] if message == word else [])
@@ -616,7 +618,7 @@ def test_a_run_to_a_moment_that_is_refused():
     "rates", [{"bitrate": {"can1": 5_000}}, {"bitrate": {None: 5_000}}, {"bitrate": {"can0": 5_000, None: 500_000}}]
 )
 def test_a_bit_rate_by_an_interface(rates):
-    """123# takes 45 bits, of 200 microseconds."""
+    """123# takes 45 bits of 200 microseconds each."""
     with Bench("can0,can1", **rates) as bench:
         bench.open("can0").send(0x123)
         assert bench.attempt().timestamp == 0.009

@@ -1,5 +1,4 @@
-"""A bench inside this process, and one as a process: after the same lines they have written the same, and have the same record and
-the same log."""
+"""A bench inside this process and a bench as a process: the same lines give the same output, record and log."""
 
 import random
 import re
@@ -23,7 +22,7 @@ MESSAGES = [
 
 
 def lines_of(draw):
-    """Yields lines of the bench: sessions 2 to 9, in raw mode and not, and what is fed to them; moments, attempts."""
+    """Yields random lines: sessions 2 to 9, some of them in raw mode, with messages, timestamps and attempts."""
     for number in range(2, 10):
         yield f"session {number}\nfeed {number} < open {'abc'[number % 3]} >" + number % 2 * "< rawmode >"
     for moment in range(400):
@@ -36,7 +35,7 @@ def lines_of(draw):
 
 
 def written_by(bench, lines):
-    """Returns what the bench writes after each of these lines."""
+    """Returns the bench's output after each of these lines."""
     written = []
     for line in lines:
         bench._write(f"{line}\nfeed 1 < echo >")
@@ -47,7 +46,7 @@ def written_by(bench, lines):
 
 
 def both(monkeypatch, folder, **options):
-    """Yields a bench of each kind, which leaves its files in a folder of its own."""
+    """Yields a bench of each kind. Each bench has its own folder for its files."""
     for kind in ("BenchInside", "BenchProcess"):
         with monkeypatch.context() as patched:
             if kind == "BenchProcess":
@@ -60,7 +59,7 @@ def both(monkeypatch, folder, **options):
 
 
 def files_of(bench):
-    """Returns the files that it has left, by their names."""
+    """Returns the contents of the bench's files, by name."""
     return {path.name: path.read_bytes() for path in bench._out.iterdir()}
 
 
@@ -89,7 +88,7 @@ def test_they_write_the_same(monkeypatch, tmp_path, options):
     ids=lambda line: line[:20],
 )
 def test_they_end_with_the_same_fault(monkeypatch, tmp_path, line):
-    """and leave no files"""
+    """Both kinds end with the same fault, and leave no files."""
     faults = []
     for bench in both(monkeypatch, tmp_path, faults=FAULTS):
         bench.open("a").send(0x123)
@@ -125,7 +124,7 @@ def test_they_refuse_the_same(monkeypatch, tmp_path):
 
 @pytest.mark.parametrize("name", ["a.rec", "a.log"])
 def test_a_file_that_cannot_be_written(monkeypatch, tmp_path, name):
-    """is named, and the other is there; a link is followed"""
+    """The error names this file, and the other file is still written, through a link."""
     texts = []
     for bench in both(monkeypatch, tmp_path):
         (bench._out / name).mkdir()

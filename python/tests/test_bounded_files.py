@@ -1,5 +1,5 @@
-"""Files that are no log and no record: their first bytes show this, and a command reads no more. Faults may also be
-many."""
+"""Files that are neither logs nor records. Their first bytes show this, and a command stops reading there. Some fault files here
+are large."""
 
 import gzip
 import os
@@ -15,7 +15,7 @@ from canbusd import Bench, Faults, Server
 from canbusd.record import read_record
 
 WAIT = 60
-# The memory limit of a command, which is less than the memory for a line of 100 MB.
+# The memory limit of a command in bytes, which is too low for a line of 100 MB.
 MOST_MEMORY = 400_000_000
 FRAME = "(1795910922.000000) ecu 123#11\n"
 ASC = "date Sat Sep 30 15:06:13.191 2017\nbase hex  timestamps absolute\nno internal events logged\n"
@@ -23,13 +23,13 @@ NO_LINE = "no line of a log has 16,384 characters, so this is none, or it is dam
 
 
 def limited():
-    """Ends a command that takes too much memory or time."""
+    """Limits the memory and the time of a command."""
     resource.setrlimit(resource.RLIMIT_AS, (MOST_MEMORY, MOST_MEMORY))
     resource.setrlimit(resource.RLIMIT_CPU, (30, 30))
 
 
 def call(*words, **more):
-    """Runs a command; returns its status and its output."""
+    """Runs a command, and returns its status and its output."""
     if words[0] == "candump2bench":
         words = ["-c", "from canbusd.candump2bench import main; main()", *words[1:]]
     else:
@@ -42,7 +42,7 @@ def call(*words, **more):
 
 
 def sparse(path, head=""):
-    """Makes a file of 100 MB of zero bytes after a head; returns its path."""
+    """Makes a file with this head and 100 MB of zero bytes; returns its path."""
     with open(path, "w", encoding="ascii") as file:
         file.write(head)
         file.truncate(len(head) + 100_000_000)
@@ -51,7 +51,7 @@ def sparse(path, head=""):
 
 @pytest.fixture(scope="module")
 def compressed(tmp_path_factory):
-    """100 MB of zero bytes, compressed."""
+    """Compresses 100 MB of zero bytes into a file."""
     path = tmp_path_factory.mktemp("compressed") / "zeros.gz"
     with gzip.open(path, "wb", compresslevel=1) as file:
         for _ in range(100):
@@ -62,7 +62,7 @@ def compressed(tmp_path_factory):
 @pytest.mark.parametrize("name", ["x.log", "x.asc", "x.csv", "x.trc"])
 @pytest.mark.parametrize("words", [["convert"], ["candump2bench"]], ids=lambda words: words[0])
 def test_a_line_without_end(compressed, tmp_path, words, name):
-    """of zeros, as /dev/zero, a file, and compressed; also after right lines"""
+    """A command refuses an endless line of zeros in /dev/zero, in a file and in a compressed file, even after valid lines."""
     out = [tmp_path / "out.log"] if words == ["convert"] else []
     path = sparse(tmp_path / name)
     assert call(*words, path, *out) == (1, "", f"{prefix(words)}: {path}:1: {NO_LINE}\n")
@@ -82,7 +82,7 @@ def test_a_line_without_end(compressed, tmp_path, words, name):
 
 
 def prefix(words):
-    """Returns the name of a command in its messages."""
+    """Returns the name that a command has in its messages."""
     return "canbusd convert" if words == ["convert"] else words[0]
 
 
@@ -92,8 +92,8 @@ def test_standard_input_without_a_line():
 
 
 def test_a_log_without_end(tmp_path):
-    """makes no input of the bench, however long it would be"""
-    # The longest frames: their lines are fewer.
+    """The conversion of an endless log stops at the size limit of the bench's input."""
+    # These are the longest frames, so the fewest lines reach the limit.
     with subprocess.Popen(["yes", f"(1795910922.000000) ecu 123##1{128 * '1'}"], stdout=subprocess.PIPE) as endless:
         said = "candump2bench: the input would have more than the 16777216 bytes that canbusd reads: cut the log\n"
         assert call("candump2bench", stdin=endless.stdout) == (1, "", said)
@@ -109,7 +109,7 @@ def test_no_blf_file(tmp_path):
 @pytest.mark.parametrize("command", ["report", "replay"])
 @pytest.mark.parametrize("options", [[], ["--cut"]])
 def test_no_record(tmp_path, command, options):
-    """a file that is no record is refused in the program's words for a short one"""
+    """The error for a large file that is no record has the same words as the error for a short one."""
     for place in (sparse(tmp_path / "x.rec"), "/dev/zero"):
         status, written, said = call(command, *options, place)
         assert (status, written) == (1, "") and said.startswith(f"canbusd {command}: {place}: bad version: `????")
@@ -120,7 +120,7 @@ def test_no_record(tmp_path, command, options):
 
 
 def test_a_log_beside_a_record_without_lines(tmp_path):
-    """the log of another run gives no names"""
+    """A log that belongs to another run gives no names."""
     with Bench("can0", out=tmp_path):
         pass
     (tmp_path / "can0.log").unlink()
@@ -131,7 +131,7 @@ def test_a_log_beside_a_record_without_lines(tmp_path):
 
 @pytest.fixture(scope="module")
 def run(tmp_path_factory):
-    """Returns the record of 100 attempts, of which a rule destroys the first."""
+    """Returns the record of a run of 100 attempts. A rule destroys the first one."""
     out = tmp_path_factory.mktemp("run")
     with Server("can0,can1", out=out, faults=Faults().next(1, id=0x123).destroyed()) as server, server.bus(
         "can0"
@@ -148,8 +148,8 @@ def test_faults_without_lines(run):
 
 
 RULES = "".join(f"at 50 next 1 from can0 id {number:03X} local crc can1\n" for number in range(0x7FF))
-#: The blocks of lines of 40 MB of faults after the first, by a number: rules that were refused, since 64 have no end, some that
-#: were given and ended at once, comments, and lines of a script.
+#: Functions that make blocks of lines for 40 MB of faults, by the number of the block. The rules in them are refused because 64
+#: endless rules exist, or are given and ended at once. The other blocks are comments, and lines of a script.
 MANY = {
     "refused": lambda number: RULES.replace("at 50 ", f"at {1 + number // 15} "),
     "ended": lambda _: RULES.replace("can1\n", "can1\nat 50 nofaults\n"),
@@ -160,7 +160,7 @@ SPLITS = "import sys\nfor line in open(sys.argv[1], 'rb'): line.split()"
 
 
 def processor_seconds(*words):
-    """Those that Python takes with these words, and what it writes."""
+    """Returns the processor time in seconds of Python with these words, and its result."""
     before = resource.getrusage(resource.RUSAGE_CHILDREN)
     done = subprocess.run(
         [sys.executable, *words], env=environment(), capture_output=True, text=True, timeout=2 * WAIT, check=True
@@ -171,8 +171,8 @@ def processor_seconds(*words):
 
 @pytest.mark.parametrize("kind", [*MANY])
 def test_forty_megabytes_of_faults(run, tmp_path, kind):
-    """take seven times as long as to split their lines, at most: 3 seconds of a processor that does nothing else. One of three
-    tries is beside even work"""
+    """Reading 40 MB of faults takes at most seven times as long as splitting their lines: 3 seconds on an idle processor. One of
+    three tries has to succeed, because the machine's load may vary."""
     for path in (run, run.with_suffix(".log")):
         os.link(path, tmp_path / path.name)
     first = "next 1 id 123 global bit\n"
@@ -195,7 +195,7 @@ def test_forty_megabytes_of_faults(run, tmp_path, kind):
 
 
 def test_a_record_is_read_from_its_first_byte(run):
-    """a record is read from its first byte, though its beginning is checked before"""
+    """A record is read from its first byte, although its beginning has been checked before."""
     assert len(read_record(run).attempts) == 100
     words = [sys.executable, "-m", "canbusd", "replay", "--quiet", "/dev/stdin"]
     done = subprocess.run(

@@ -1,4 +1,4 @@
-"""tools/candump2bench: logs as inputs of the bench. tests/record/test_log_readers.py tests it with complete logs."""
+"""tools/candump2bench makes inputs of the bench from logs. tests/record/test_log_readers.py tests it with complete logs."""
 
 import subprocess
 import sys
@@ -41,7 +41,7 @@ def test_another_line_is_not():
 
 
 def test_lines_that_are_alike():
-    """equal lines, as for bus off with different timestamps, are reported once; other lines are reported each"""
+    """Equal lines, such as bus off at different timestamps, are reported once; each different line is reported."""
     failed = [f"(1.{number:06}) ecu 20000080#0000000000000000\n" for number in range(32)]
     others = ["garbage\n", "(2.000000) can1 20000080#0000000000000000\n", "rubbish\n"]
     done = converted("(0.000000) ecu 123#1122\n" + "".join([*failed, *others]))

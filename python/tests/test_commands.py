@@ -1,4 +1,4 @@
-"""canbusd COMMAND: dump, send, status, report and replay, each as a process: a fork, or a program of its own."""
+"""canbusd COMMAND: dump, send, status, report and replay. Each runs in a process: a fork, or a separate program."""
 
 import contextlib
 import json
@@ -28,7 +28,7 @@ READY, END = 0x7FF, 0x7FE
 
 
 def environment(server=None):
-    """The environment of a command, which imports the same package as this test."""
+    """Returns the environment of a command, which imports the same package as this test."""
     address = {"CANBUSD_ADDRESS": server.address} if server else {}
     places = [str(Path(canbusd.__file__).parents[1]), *filter(None, [os.environ.get("PYTHONPATH")])]
     return {**os.environ, "PYTHONPATH": os.pathsep.join(places), "PYTHONDONTWRITEBYTECODE": "1", "TZ": "UTC", **address}
@@ -39,7 +39,7 @@ def words_of(*words):
 
 
 def call(*words, server=None, **more):
-    """Runs a command to its end; its status, what it wrote, and its faults."""
+    """Runs a command to its end, and returns its status, its output and its errors."""
     return forked(*words, env=environment(server), **more)
 
 
@@ -49,7 +49,7 @@ def message(identifier, data=b"", **more):
 
 @contextlib.contextmanager
 def dumping(server, sender, *words, names=("can1",)):
-    """A dump that receives from these interfaces; `sender` sends until it has written a frame of each."""
+    """A dump of these interfaces. `sender` sends until the dump has written a frame of each interface."""
     child = subprocess.Popen(
         words_of("dump", *words), env=environment(server), stdout=subprocess.PIPE, stderr=subprocess.PIPE, bufsize=0
     )
@@ -70,10 +70,10 @@ def dumping(server, sender, *words, names=("can1",)):
 
 
 def dumped(child, sender, names=1):
-    """What a dump writes up to the last frame, without the frames that showed that it is ready."""
+    """Returns the output of a dump up to the last frame, without the frames that showed that it was ready."""
     written = b""
     for _ in range(10 * WAIT):
-        # Again, since the frame may be one that finds no room.
+        # The frame is sent again and again, because the dump's queue may have no room for it.
         sender.send(message(END), timeout=5)
         while select.select([child.stdout], [], [], 0.1)[0]:
             piece = os.read(child.stdout.fileno(), 65536)
@@ -100,7 +100,7 @@ def dumped(child, sender, names=1):
     ],
 )
 def test_frames_on_the_screen_are_those_of_candump(text, line):
-    """Lines as candump of can-utils writes them."""
+    """The lines are those of candump in can-utils."""
     import argparse
 
     view = View(argparse.Namespace(log=False, explain=False, timestamps=None), 4)
@@ -108,7 +108,7 @@ def test_frames_on_the_screen_are_those_of_candump(text, line):
 
 
 def test_identifiers_of_11_bits_after_one_of_29():
-    """As candump does: they are written below its low digits."""
+    """After a 29-bit identifier, 11-bit identifiers are aligned on the right, like candump's."""
     import argparse
 
     view = View(argparse.Namespace(log=False, explain=False, timestamps=None), 4)
@@ -146,7 +146,7 @@ def test_dump_of_several_interfaces():
                 )  # fmt: skip
             lines = dumped(child, sender, names=2)
     for name in ("can1", "can2"):
-        # The width of an identifier depends on which interface's frames came first.
+        # Spaces are ignored, because the width of an identifier depends on the order of the frames.
         assert [" ".join(line.split()) for line in lines if name in line] == [
             f"{name} 123 [1] 11",
             f"{name} 00000123 [0]",
@@ -212,7 +212,7 @@ def test_dump_that_counts_and_dump_that_waits():
 
 
 def test_dump_says_what_found_no_room():
-    """The receive queue has room for one frame; each of a burst is written, or is one of those that were dropped."""
+    """The receive queue has room for one frame. Each frame of a burst is either written, or counted as dropped."""
     frames = 20000
     with Server("can0,can1", pace_ms=0, txqueue=1024, rxqueue=1) as server, server.bus("can0") as sender:
         with dumping(server, sender, "-L", "can1") as child:
@@ -355,7 +355,8 @@ def test_status_of_a_busy_bus():
     with Server("can0,can1", bitrate=5_000, txqueue=1_000) as server, server.bus("can0") as sender:
 
         def is_full():
-            """Whether a status says so of the last second, while frames wait. A server that is late leaves out what it missed."""
+            """Returns whether the status shows a full bus for the last second. Frames always wait in the queue, but a server that
+            is late skips attempts."""
             sender.send_many([message(1, bytes(8))] * (1_000 - sender.stats().waiting))
             status, written, said = call("status", server=server)
             assert (status, said) == (0, "")
@@ -443,7 +444,7 @@ def test_fault_refuses_in_one_line(words, fault):
 
 @pytest.fixture
 def record(tmp_path):
-    """The record of a frame that is destroyed once, and of one that loses arbitration."""
+    """The record of a run in which a frame is destroyed once, and another frame loses arbitration."""
     with Bench("can0,can1", faults=Faults().destroyed(0), out=tmp_path) as bench:
         for name, identifier in (("can0", 0x124), ("can1", 0x123)):
             bench.open(name).send(identifier)
@@ -469,7 +470,7 @@ def test_replay_of_a_record(record):
 
 
 def test_a_record_that_is_cut_off(record):
-    """As a server leaves it that was killed; its interfaces have the names in the log beside it."""
+    """A killed server leaves a record that is cut off. The names of its interfaces are in the log beside it."""
     whole, cut = call("replay", record)[1], record.with_name("can0.rec.new")
     cut.write_bytes(record.read_bytes()[:-4])
     for command in ("replay", "report"):
@@ -489,7 +490,7 @@ def test_report_of_a_record(record):
     drawn = call("report", "--text", record)[1]
     story = "2 nodes, 3 attempts: 1 failed\n"
     assert drawn == story + call("report", "--arbitration", record)[1] + call("report", "--counters", record)[1]
-    # 124 has a recessive bit where 123 has a dominant one.
+    # 123 wins, because it has a dominant bit where 124 has a recessive one.
     assert "attempt 1: can1 wins with 123#, done\n  can0 001001001<- loses here\n  can1 00100100011 00\n" in drawn
     assert "can1: transmit count #, receive count o, over 3 steps\n" in drawn
     assert call("report", record.with_name("none"))[::2] == (
@@ -511,7 +512,7 @@ def test_commands_and_their_help():
     assert call("dance")[0] == call("help", "dance")[0] == call()[0] == 2
     status, written, said = call("--version")
     assert (status, said) == (0, "")
-    # An installed package names its commit.
+    # An installed package shows its commit.
     assert re.fullmatch(rf"canbusd {re.escape(canbusd.__version__)}( \([0-9a-f]{{8}}\+?\))?\n", written)
 
 
@@ -556,7 +557,7 @@ def test_first_words_that_are_wrong(words, said):
     ],
 )
 def test_options_that_are_wrong(words, said):
-    """the status is 2, as of a fault of the program's command line, before a server or a file is looked for"""
+    """The status of a wrong option is 2, as for the program itself. No server or file is opened before that."""
     status, written, errors = call(*words.split())
     assert (status, written) == (2, "") and errors.endswith(f": {said}\n"), errors
 
@@ -617,7 +618,7 @@ def test_a_replay_in_json(tmp_path):
 
 
 def test_reports_need_no_python_can(record):
-    """Nothing but buses and logs needs python-can, and nothing of it needs pytest."""
+    """Only buses and logs need python-can, and no part of the package needs pytest."""
     program = (
         "import sys; sys.modules['can'] = sys.modules['pytest'] = None\n"
         "import canbusd\n"

@@ -1,4 +1,4 @@
-"""The comparison of two runs: their first difference, in words and on one page."""
+"""The comparison of two runs: their first difference, in words and on a page."""
 
 import contextlib
 import random
@@ -20,7 +20,7 @@ from canbusd.record import read_record
 
 
 def run_of(tmp_path, name, faults=None, frames=6, names="can0,can1"):
-    """Returns a run in which the first interface sends frames, with its record in a file."""
+    """Returns a run in which the first interface sends frames. The record of the run is in a file."""
     (tmp_path / name).mkdir()
     with Bench(names, faults=faults, out=tmp_path / name) as bench:
         sender = bench.open(bench.names[0])
@@ -31,7 +31,7 @@ def run_of(tmp_path, name, faults=None, frames=6, names="can0,can1"):
 
 
 def test_a_frame_that_is_sent_again(tmp_path):
-    """a frame that is sent again is one difference, and the later frames are the same"""
+    """A frame that is sent again is one difference, and the later frames match."""
     one, other = run_of(tmp_path, "a"), run_of(tmp_path, "b", Faults().destroyed(4))
     words = "can0 104#04: done against destroyed (global bit), then done"
     assert Comparison(one, other).differences == [("other outcome", 4, 4, words)]
@@ -59,7 +59,7 @@ def test_runs_that_are_alike_and_one_that_goes_on(tmp_path):
 
 
 def run_at(tmp_path, name, sent, faults=None, **more):
-    """Returns a run of a bus at 500 kbit/s; each frame has its time and its interface."""
+    """Returns a run of a bus at 500 kbit/s, in which each frame has a time and an interface."""
     (tmp_path / name).mkdir()
     with Bench("a,b,c", faults=faults, bitrate=500_000, out=tmp_path / name, **more) as bench:
         sessions = {channel: bench.open(channel) for channel in bench.names}
@@ -72,12 +72,12 @@ def run_at(tmp_path, name, sent, faults=None, **more):
 
 
 def cyclic(channel, identifier, count, period=0.01, start=0.0):
-    """Returns frames with a counter, at a period."""
+    """Returns cyclic frames whose first byte is a counter."""
     return [(start + period * k, channel, f"{identifier}#{k % 16:02X}") for k in range(count)]
 
 
 def test_a_frame_that_is_missing(tmp_path):
-    """the frames after the missing counter are the same, and so are other senders' frames"""
+    """Frames after the missing one match, and so do the frames of other senders."""
     sent = cyclic("a", "100", 100) + cyclic("b", "200", 100, start=0.003)
     lost = [one for one in sent if one[:2] != (0.5, "a")]
     one, other = run_at(tmp_path, "a", sent), run_at(tmp_path, "b", lost)
@@ -92,8 +92,8 @@ def test_other_data_and_another_outcome(tmp_path):
     ]
     faults = Faults().next(1, id=0x100, skip=7).last_bit().next(1, id=0x100, skip=3).local("crc", ["c"])
     comparison = Comparison(run_at(tmp_path, "a", sent), run_at(tmp_path, "b", changed, faults))
-    # The second rule takes the fourth attempt, and the first rule the eighth: a frame that is sent again is an
-    # additional attempt.
+    # The second rule hits the fourth attempt, and the first rule the eighth, because a frame that is sent again is an additional
+    # attempt.
     assert comparison.differences == [
         ("other outcome", 3, 3, "a 100#03: done against destroyed (local crc c), then done"),
         ("other data", 5, 6, "a 100#05 against a 100#FF"),
@@ -102,7 +102,7 @@ def test_other_data_and_another_outcome(tmp_path):
 
 
 def test_frames_that_come_later(tmp_path):
-    """frames that are later by more than the tolerance are reported, but only once if all later frames are late too"""
+    """Frames that are late by more than the tolerance are reported. If all later frames are late too, only the first is."""
     sent = cyclic("a", "100", 100) + cyclic("b", "200", 100, start=0.003)
     late = [(moment + 0.025 * (channel == "b" and moment > 0.5), channel, text) for moment, channel, text in sent]
     one, other = run_at(tmp_path, "a", sent), run_at(tmp_path, "b", late)
@@ -117,7 +117,7 @@ def test_frames_that_come_later(tmp_path):
 
 
 def test_runs_that_differ_in_order_only(tmp_path):
-    """two nodes that send at about the same time: the command reports this, and the status is 0"""
+    """Two nodes send at about the same time: the command reports only another order, with status 0."""
     sent = cyclic("a", "100", 50) + cyclic("b", "200", 50, start=0.0004)
     jittered = cyclic("a", "100", 50) + [
         (moment - 0.0008 * (k % 3 == 2), channel, text)
@@ -131,10 +131,10 @@ def test_runs_that_differ_in_order_only(tmp_path):
 
 
 def test_outages_and_restarts(tmp_path):
-    """a node goes bus off, and another node is restarted less often"""
+    """A comparison reports that a node goes bus off, and that the number of restarts differs."""
     sent = cyclic("a", "100", 30) + cyclic("b", "200", 30, start=0.003)
     faults = Faults().next(32, sender="b", skip=10).destroyed()
-    # 600 attempts of 11 bits or more bring the node back, after its next frame was refused.
+    # The node returns after 600 attempts of 11 bits or more. Its next frame comes before that, and is refused.
     one = run_at(tmp_path, "a", sent, auto_restart=600)
     other = run_at(tmp_path, "b", sent, faults, auto_restart=600)
     assert [(each.kind, each.words) for each in Comparison(one, other).differences] == [
@@ -149,7 +149,7 @@ def test_outages_and_restarts(tmp_path):
 
 @pytest.mark.parametrize("seed", range(20))
 def test_the_longest_part_in_common(seed):
-    """the result is a longest common subsequence by its definition"""
+    """The result is a longest common subsequence, as the definition of that gives it."""
     source = random.Random(seed)
     for _ in range(50):
         one, other = (["abc"[source.randrange(3)] for _ in range(source.randrange(12))] for _ in range(2))
@@ -181,8 +181,8 @@ def test_the_command(tmp_path):
 
 
 def runs_of_two_nodes(tmp_path, *names):
-    """Returns the records of two runs: in both the first interface sends a frame, and in the second also the other
-    one."""
+    """Returns the records of two runs. The first interface sends a frame in both, and the second interface only in the second run.
+    """
     records = []
     for folder, senders in (("a", [0]), ("b", [0, 1])):
         (tmp_path / folder).mkdir()
@@ -196,7 +196,7 @@ def runs_of_two_nodes(tmp_path, *names):
 
 
 def test_names_of_senders_only(tmp_path):
-    """a log only names senders: an interface without a name in one run is the interface with its number in the other"""
+    """A log names only senders. An interface that has no name in one run is matched by its number in the other run."""
     one, other = runs_of_two_nodes(tmp_path, "can0", "can1")
     wanted = [
         "1 difference, in attempt 1: only there: can1 123#ABCD: done",
@@ -204,7 +204,7 @@ def test_names_of_senders_only(tmp_path):
     ]
     assert Comparison(read_record(one), read_record(other)).lines() == wanted
     assert Comparison(read_record(one, "can0,can1"), read_record(other, "can0,can1")).lines() == wanted
-    # Without both logs, with one of them, and a run compared with itself without its log.
+    # The same holds without both logs, without one of them, and for a run that is compared with itself without its log.
     one.with_suffix(".log").unlink()
     assert Comparison(read_record(one), read_record(other)).lines() == wanted
     assert Comparison(read_record(one), read_record(one, "can0,can1")).differences == []
@@ -217,7 +217,7 @@ def test_names_of_senders_only(tmp_path):
 
 @pytest.mark.parametrize("names", ["can1,can0", "can1,can2", "ecu,tester"])
 def test_names_that_do_not_fit(tmp_path, names):
-    """interfaces are compared by name if both runs name all of them, else by number"""
+    """Interfaces are compared by name if both runs name all of them, otherwise by number."""
     one, other = runs_of_two_nodes(tmp_path, "can0", "can1")
     found = Comparison(read_record(other, "can0,can1"), read_record(other, names))
     if names == "can1,can0":
@@ -228,14 +228,14 @@ def test_names_that_do_not_fit(tmp_path, names):
 
 
 def test_receivers_in_another_order(tmp_path):
-    """the same names at other numbers are the same receivers"""
+    """Receivers with the same names are equal, even if their numbers differ."""
     one = tmp_path / "a" / "can0.rec"
     run_of(tmp_path, "a", names="can0,can1,can2")
     assert Comparison(read_record(one, "can0,can1,can2"), read_record(one, "can0,can2,can1")).differences == []
 
 
 def test_the_exit_status(tmp_path):
-    """the status is 0 whether or not they differ; with --exit-code it is 1 if they differ, also with a page"""
+    """The status is 0 even if the runs differ. With --exit-code it is 1 if they differ, also when a page is written."""
     one, other = runs_of_two_nodes(tmp_path, "can0", "can1")
     words = ["report", "--names", "can0,can1"]
     for form in ([], ["--text"]):
@@ -246,7 +246,7 @@ def test_the_exit_status(tmp_path):
 
 
 def test_interfaces_without_a_name(tmp_path):
-    """one line explains how to give names; there is no such line if there are names, or no name is printed"""
+    """One line explains how to give names. It is missing if all interfaces have names, or no name is printed."""
     one, other = runs_of_two_nodes(tmp_path, "can0", "can1")
     note = f"note: {one}: no log names interface 1: name all interfaces with --names can0,NAME\n"
     for words in (["report"], ["report", "--text"], ["replay"], ["replay", "--json"]):
@@ -260,8 +260,8 @@ def test_interfaces_without_a_name(tmp_path):
 @pytest.mark.skipif(PROGRAM is None, reason="not installed: chromium")
 @pytest.mark.parametrize("width", [500, 1200])
 def test_both_on_one_axis(opened, tmp_path, width):  # noqa: F811
-    """each node has an additional lane; the page begins at the first difference, and shows the other run's events
-    there"""
+    """Each node has a second lane for the other run. The page begins at the first difference, and shows the other run's events
+    there."""
     one, other = run_of(tmp_path, "a"), run_of(tmp_path, "b", Faults().destroyed(4))
     shown = opened(one.replay, one.names, comparison=Comparison(one, other, "b.rec"))
     shown.size(width)
@@ -273,8 +273,8 @@ def test_both_on_one_axis(opened, tmp_path, width):  # noqa: F811
     assert "The same in b.rec, attempt 5: can0 104#04 done" in said
     shown.key("ArrowLeft")
     assert "The same in b.rec, attempt 3: can0 103#03 done" in shown.run("at('chosen').textContent")
-    # An attempt of the other run is at the place of the same attempt here; a failed attempt is at the border before the
-    # last attempt of its frame.
+    # An attempt of the other run is drawn at the place of the same attempt in this run. A failed attempt is at the border before
+    # the last attempt of its frame.
     spans = "[0, 1].map(which => [...other.spans[0][which]].map(place => Math.round(100 * place)))"
     assert shown.run(spans) == [[0, 100, 200, 300, 370, 400, 500], [100, 200, 300, 400, 430, 500, 600]]
     shown.key("t")
@@ -284,7 +284,7 @@ def test_both_on_one_axis(opened, tmp_path, width):  # noqa: F811
 
 @pytest.mark.skipif(PROGRAM is None, reason="not installed: chromium")
 def test_a_run_beside_nothing(opened, tmp_path):  # noqa: F811
-    """the title says which of the two runs has the frames"""
+    """The title says which of the two runs has the frames."""
     one, nothing = run_of(tmp_path, "a"), run_of(tmp_path, "b", frames=0)
     shown = opened(one.replay, one.names, comparison=Comparison(one, nothing, "b.rec"))
     assert shown.run("at('title').textContent").startswith("6 differences, first in attempt 0: only here: ")
@@ -316,7 +316,7 @@ def test_from_one_difference_to_the_next_and_to_the_other_run(opened, tmp_path):
     shown.run("delete document.body.dataset.drawn")
     shown.key("o")
     shown.until("document.body?.dataset.drawn !== undefined")
-    # Its attempt of the same frame comes with its own list, its own load, and the first run for comparison.
+    # The other run's attempt of the same frame is shown with that run's list and load, and the first run is there for comparison.
     assert shown.run("location.hash") == "#attempt=10&run=2"
     assert shown.run("run.title") == "other.rec" and shown.run("run.other.title") == "run.rec"
     assert shown.run("attemptOf[axis.count]") == 43 and shown.run("lanes[0].name") == "bus load"
@@ -329,14 +329,14 @@ def test_from_one_difference_to_the_next_and_to_the_other_run(opened, tmp_path):
 
 @pytest.mark.skipif(PROGRAM is None, reason="not installed: chromium")
 def test_bars_of_the_other_run_are_as_long_as_its_attempts(opened, tmp_path):  # noqa: F811
-    """and so are its outages"""
+    """Bars and outages of the other run are as long as its attempts."""
     sent = cyclic("a", "100", 30) + cyclic("b", "200", 30, start=0.003)
     faults = Faults().next(32, sender="b", skip=10).destroyed()
     one = run_at(tmp_path, "one", sent, auto_restart=2)
     other = run_at(tmp_path, "other", sent, faults, auto_restart=2)
     shown = opened(one.replay, one.names, comparison=Comparison(one, other, "other.rec"), rates=Rates(500_000))
     starts, ends = shown.run("[0, 1].map(which => [...other.spans[1][which]])")
-    # The frame has one byte, and the record has its end in microseconds; 3 bits follow the frame.
+    # The frame has one byte. The record has the end of the frame in microseconds, and 3 bits of intermission follow.
     moments = [attempt.timestamp for attempt in other.attempts if attempt.outcome == "done"]
     done = [
         k

@@ -1,4 +1,5 @@
-"""CanbusdBus against a simulated server: messages cut anywhere, answers that come late or never, and an end."""
+"""CanbusdBus against a simulated server: messages that are cut at any byte, late or missing answers, and the end of the connection.
+"""
 
 import asyncio
 import contextlib
@@ -20,7 +21,7 @@ UNKNOWN = "< error unknown command >"
 
 
 class Played:
-    """A server of one session on a Unix path, which replies to each message as `answers` says. An old server does not
+    """A server with one session on a Unix path, which answers each message from the table `answers`. An old server does not
     acknowledge frames."""
 
     def __init__(self, path, greeting=b"< hi >", cut=False, old=False):
@@ -78,7 +79,7 @@ class Played:
 
 @pytest.fixture
 def play(tmp_path):
-    """Starts simulated servers, which run until the end of the test."""
+    """A function that starts simulated servers, which run until the end of the test."""
     played = []
 
     def start(**how):
@@ -113,7 +114,7 @@ def test_messages_cut_at_each_byte(play):
             whole = STREAM[:cut].count(b">")
             played.write(STREAM[:cut])
             got = [bus.recv(WAIT) for _ in range(whole)]
-            # An incomplete message does not count yet.
+            # The bus does not return an incomplete message.
             assert bus.recv(0) is None
             played.write(STREAM[cut:])
             got += [bus.recv(WAIT) for _ in range(len(READ) - whole)]
@@ -182,7 +183,7 @@ def test_an_older_server_has_no_list_of_interfaces(play, monkeypatch):
             {"bitrate": 500_000},
             ["bitrate 500000 is left out: the server has none, and frames take no time"],
         ),
-        # Older servers do not report this.
+        # Older servers do not report their bit rates.
         ("load 0 0", {"bitrate": 500_000}, []),
         ("error unknown command", {"bitrate": 500_000, "data_bitrate": 500_000}, []),
     ],
@@ -212,7 +213,7 @@ def test_the_load_of_an_older_server(play, answer):
 def test_whose_a_frame_is(play):
     played = play(cut=True)
     with CanbusdBus("can0", address=played.address, fd=True, receive_own_messages=True) as bus:
-        # A bus has 4,294,967,294 entries, so a number has ten digits at most.
+        # A record has at most 4,294,967,294 entries, so the number of a frame has ten digits at most.
         for number in (0, 7, 5000, 4294967293):
             played.answers["send"] = f"< frame 124 1.000000  same {number + 1} >< ack {number} >"
             bus.send(message(1))
@@ -246,7 +247,7 @@ def test_what_is_no_ack_is_a_refusal(play, verdict):
 
 
 class Overtaken:
-    """A lock that another thread has just released, after it has read something."""
+    """A lock that another thread has just released, after it has read from the connection."""
 
     def __init__(self, lock, reads):
         self._lock, self._reads = lock, [reads]
@@ -321,7 +322,7 @@ def test_an_answer_that_comes_too_late(play, old, end):
                 bus.send(message(1))
         played.answers.clear()
         played.answers.update(answers)
-        # This answer belongs to no later question.
+        # These late answers belong to earlier questions, so no later call gets them.
         played.write(b"< error bus off >%b< error no buffers >%b" % (end, end))
         bus.send(message(2))
         played.answers["status"] = "< status active 1 2 >"
@@ -370,7 +371,7 @@ def test_a_server_that_takes_nothing(play):
 
 
 def ends_of(bus):
-    """Returns the errors of a bus after its server is gone: in a waiting call, and in later calls."""
+    """Returns the errors of a bus whose server is gone: of a waiting call, and of later calls."""
     for call in (lambda: bus.recv(WAIT), lambda: bus.recv(0), bus.recv, lambda: bus.send(message(1)), bus.stats):
         with pytest.raises(can.CanOperationError, match="the server closed the connection|the connection broke"):
             call()
@@ -430,7 +431,7 @@ def test_a_server_that_dies_is_reported_once_on_asyncio():
                 await asyncio.sleep(0.01)
                 if faults:
                     break
-            # In the same time again, a file descriptor that stayed readable would cause thousands of calls.
+            # If the file descriptor stayed readable, this pause would see thousands of calls.
             await asyncio.sleep(0.1)
             notifier.stop()
             assert not select.select([bus], [], [], 0)[0]

@@ -1,4 +1,4 @@
-"""The content of databases: the senders of messages, their times and signals; and files that are no database."""
+"""The content of databases: messages with their senders, times and signals. Files that are no database are refused."""
 
 import random
 from pathlib import Path
@@ -11,7 +11,7 @@ from canbusd.signals import HOW_TO_GET, DatabaseError, load_database
 from test_signals import LIBRARIES
 
 REST = Path(__file__).with_name("rest.dbc")
-# These values are read by hand from the file: 3200 * 0.25 is 800, and 0 with the offset -40 is -40.
+# These values were worked out by hand from the file: 3200 * 0.25 is 800, and 0 with the offset -40 is -40.
 SHOWN = """\
 EngineData 100 [8] from Engine, every 10 ms, NoMsgSendType
   EngineSpeed: 0 to 16000 rpm; starts as 800; for ECU, Gateway
@@ -56,12 +56,12 @@ def library(request):
 
 @pytest.fixture
 def rest(library):
-    """The messages of the file."""
+    """The database of the file rest.dbc."""
     return load_database(REST, library=library)
 
 
 def written(folder, text, name="wrong.dbc"):
-    """Returns the messages of a file with this text."""
+    """Returns the database in a file with this text."""
     path = folder / name
     path.write_text(text)
     return path
@@ -89,12 +89,12 @@ def test_the_message_of_a_frame(rest):
 
 
 def random_signals(rng):
-    """Returns signals of a message of 8 bytes without overlaps, each with its line of a DBC file and its raw limits."""
+    """Returns signals of a message of 8 bytes that do not overlap, each with its line of a DBC file and its raw limits."""
     taken, lines, limits = set(), [], {}
     for number in range(rng.randint(1, 6)):
         size, is_little, is_signed = rng.randint(1, 20), rng.random() < 0.5, rng.random() < 0.5
         start = rng.randrange(64)
-        # The bits by the rule of DBC files: up from the lowest, or down from the highest and then on in the next byte.
+        # DBC files count bits up from the lowest bit, or down from the highest bit and then on in the next byte.
         bits, bit = [], start
         for _ in range(size):
             bits.append(bit)
@@ -127,24 +127,24 @@ def test_floats(tmp_path, library):
     text = HEAD + 'BO_ 1 M: 8 ECU\n SG_ f : 0|32@1- (2,1) [0|0] "" ECU\n SG_ g : 39|32@0- (1,0) [0|0] "" ECU\n\n'
     text += "SIG_VALTYPE_ 1 f : 1;\nSIG_VALTYPE_ 1 g : 1;\n"
     database = load_database(written(tmp_path, text), library=library)
-    # (4 - 1) / 2 is 1.5, 3FC00000 by IEEE 754; -2 is C0000000.
+    # (4 - 1) / 2 is 1.5, which is 3FC00000 in IEEE 754. -2 is C0000000.
     frame = database.encode("M", {"f": 4, "g": -2})
     assert str(frame) == "001#0000C03FC0000000"
     assert [signal.value for signal in database.decode(frame).signals] == [4, -2]
 
 
 def test_what_is_not_given_is_as_it_starts(rest):
-    # 800 / 0.25 is 0C80, -40 is 00.
+    # 800 / 0.25 is 0C80 in hexadecimal, and -40 is 00.
     assert str(rest.encode("EngineData", {})) == "100#800C000000000000"
-    # Highest byte first: -1.5 / 0.5 is FFFD.
+    # The highest byte is first: -1.5 / 0.5 is FFFD.
     assert str(rest.encode("EcuData", {"Torque": -1.5})) == "123#FFFD"
-    # [0|0] means no limit: -8 / 0.5 is FFF0.
+    # The range [0|0] means that there is no limit: -8 / 0.5 is FFF0.
     assert str(rest.encode("GatewayPage", {"Page": 0, "Left": -8})) == "300#00F0FF"
 
 
 def test_multiplexers_of_multiplexers(library, tmp_path):
     deep = load_database(written(tmp_path, MULTIPLEXERS), library=library)
-    # (2 + 40) / 2 is 15.
+    # (2 + 40) / 2 is 15 in hexadecimal.
     assert str(deep.encode("Deep", {"outer": 0, "inner": 1, "deep": 2})) == "200#0001150000000000"
     assert str(deep.encode("Deep", {"outer": 5, "wide": 9})) == "200#0509000000000000"
     assert str(deep.decode(Frame.parse("200#0001150000000000"))) == "Deep: outer=0, inner=1, deep=2"
@@ -156,7 +156,7 @@ def test_multiplexers_of_multiplexers(library, tmp_path):
 @pytest.mark.parametrize(
     "ending, line",
     [
-        # The files come from canmatrix: KCD and SYM have no send types, SYM has no nodes, and ARXML has no times.
+        # canmatrix writes these files: KCD and SYM have no send types, SYM has no nodes, and ARXML has no cycle times.
         ("kcd", "EngineStatus 200 [2] from Engine, every 100 ms"),
         ("sym", "EngineStatus 200 [2] from nobody, every 100 ms"),
         ("arxml", "FRAME_EngineStatus 200 [2] from Engine"),
@@ -231,7 +231,7 @@ def test_signals_in_each_others_way(tmp_path):
     pytest.importorskip("canmatrix", reason="cantools refuses the file")
     text = HEAD + 'BO_ 1 M: 2 ECU\n SG_ a : 0|9@1+ (1,0) [0|0] "" ECU\n SG_ b : 8|8@1+ (1,0) [0|0] "" ECU\n'
     database = load_database(written(tmp_path, text), library="canmatrix")
-    # Both files can be read, but not written.
+    # Messages with overlapping signals can be decoded, but not encoded.
     assert str(database.decode(Frame.parse("001#0003"))) == "M: a=256, b=3"
     with pytest.raises(DatabaseError, match="message M: signal b has bits that a has too"):
         database.encode("M", {"a": 1})

@@ -1,4 +1,4 @@
-"""DBC files with any numbers: each file is read, or refused with its line, within a second and 100 MB."""
+"""DBC files with arbitrary numbers: each file is read within a second and 100 MB, or refused with the number of the line."""
 
 import multiprocessing
 import random
@@ -18,7 +18,7 @@ from canbusd.signals import DatabaseError, load_database
 
 HERE = Path(__file__).parent
 HEAD = 'VERSION ""\n\nBU_: ECU TESTER\n\nBO_ 291 M: 8 ECU\n'
-# The file has a float, a multiplexer of two levels, and each attribute with a number that is read.
+# This file has a float, a multiplexer of two levels, and every attribute with a number that the package reads.
 MORE = """\
 VERSION ""
 
@@ -46,7 +46,7 @@ SIG_VALTYPE_ 291 speed : 1;
 SG_MUL_VAL_ 291 right left 1-1, 3-5;
 """
 NUMBER = re.compile(r"(?<![\w.])[-+]?\d+(?:\.\d+)?(?:[eE][-+]?\d+)?(?![\w.])|(?<=\bm)\d+")
-# Limits of bits, bytes, words and doubles, long numbers, and texts that are no number.
+# The limits of bits, bytes, words and doubles, long numbers, and texts that are no number.
 EDGES = (
     *("0", "1", "-1", "7", "8", "63", "64", "65", "255", "65535", "65536", "2147483648", "4294967295", "4294967296"),
     *("18446744073709551616", "99999999999", "1000000000", "9" * 30, "9" * 400, "9" * 5000, "3.4E+38", "-3.4E+38"),
@@ -86,7 +86,7 @@ def canmatrix():
 
 
 def mutated(seed):
-    """Returns a file of which one to three numbers are replaced."""
+    """Returns the text of a file in which one to three numbers are replaced."""
     lot = random.Random(seed)
     text = lot.choice([MORE, *((HERE / name).read_text() for name in ("car.dbc", "rest.dbc"))])
     for one in sorted(lot.sample([*NUMBER.finditer(text)], lot.randint(1, 3)), key=lambda found: -found.start()):
@@ -99,7 +99,7 @@ def mutated(seed):
 
 
 def used(path):
-    """Reads a file, and shows, encodes and decodes its messages; raises DatabaseError like the functions."""
+    """Reads a file, and shows, encodes and decodes its messages. Raises DatabaseError if the package does."""
     database = load_database(path, library="canmatrix")
     assert str(database)
     for message in database.messages:
@@ -114,10 +114,10 @@ def used(path):
 
 
 def tried(folder, seeds, results):
-    """Tries files in a separate process: `results` gets the errors, and then the memory in MB."""
+    """Tries files in a separate process. `results` gets the errors, and finally the used memory in MB."""
     resource.setrlimit(resource.RLIMIT_AS, (1 << 30, 1 << 30))
     path = folder / "x.dbc"
-    # The first import does not count.
+    # This run imports the modules, so that their memory does not count.
     path.write_text(MORE)
     used(path)
     before = resource.getrusage(resource.RUSAGE_SELF).ru_maxrss
@@ -202,7 +202,7 @@ def test_a_fault_whose_line_the_library_does_not_say(tmp_path):
 
 
 def test_numbers_in_texts_are_none(tmp_path):
-    """numbers in texts don't count, also in texts of several lines, and with quotes"""
+    """Numbers inside texts are not checked, even if a text has several lines or escaped quotes."""
     text = 'CM_ SG_ 291 s "1E999999 \\" 1E999999\nand 1E999999\n BO_ 1 N: 99999999999 ECU\n1E999999";\n'
     path = written(tmp_path, f'{HEAD} SG_ s : 0|8@1+ (1,0) [0|0] "1E999999" TESTER\n{text}')
     assert [one.name for one in load_database(path, library="canmatrix").messages] == ["M"]
@@ -219,7 +219,7 @@ def test_a_file_without_lines(tmp_path):
 
 
 def test_ranges_of_multiplexers(tmp_path):
-    """cantools makes lists of these ranges"""
+    """Ranges of multiplexers have a limit, because cantools makes lists of them."""
     path = written(tmp_path, f"{HEAD}SG_MUL_VAL_ 291 s t 1-1, 0-65536;\n")
     check_numbers(str(path))
     check_numbers(str(path), 65_537)

@@ -1,4 +1,4 @@
-"""One dialect: a test has the same results on a server and on a bench, with and without a bit rate."""
+"""Servers and benches share a dialect: a test has the same results on both, with and without a bit rate."""
 
 import can
 import pytest
@@ -28,7 +28,7 @@ def ends(run):
 
 
 def is_exact(run):
-    """Whether the run's times are exact: load on the machine delays nothing."""
+    """Returns whether times are exact, so that a busy machine delays nothing."""
     return isinstance(run, Bench) or is_virtual()
 
 
@@ -164,7 +164,7 @@ def test_a_periodic_frame_changes(run, ends):
     with pytest.raises(ValueError):
         task.modify_data(Frame(0x124, b"\x02"))
     task.stop()
-    # These frames were sent before.
+    # This loop discards the frames that were sent before the stop.
     while tester.recv(timeout=0.1):
         pass
     task.start()
@@ -173,7 +173,7 @@ def test_a_periodic_frame_changes(run, ends):
 
 def test_a_full_queue(run, ends):
     ecu, _ = ends
-    # There are more frames than the queue has room for.
+    # The transmit queue is smaller than this number of frames.
     for number in range(25):
         ecu.send(0x200, bytes([number]), timeout=WAIT)
     assert run.expect(0x200, bytes([24]), within=WAIT)

@@ -1,4 +1,4 @@
-"""The Python code of the documents: it runs exactly as it is printed."""
+"""The Python code in the documents runs exactly as it is printed."""
 
 import importlib.util
 import re
@@ -11,7 +11,7 @@ from canbusd._library import library
 from canbusd.server import Server
 
 CLONE = Path(__file__).resolve().parents[2]
-# The documents whose first test needs its faults.
+# These documents have a first test that fails without its faults.
 DOCUMENTS = {"readme": "README.md", "guide": "docs/GUIDE.md"}
 
 
@@ -21,7 +21,7 @@ def blocks(path):
 
 
 def found_library():
-    """Returns the path of libcanbusd, or None if there is none."""
+    """Returns the path of libcanbusd, or None if the library is not built."""
     try:
         return library.find_library()
     except library.LibraryNotFound:

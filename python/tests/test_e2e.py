@@ -10,7 +10,7 @@ from canbusd.server import Server
 from canbusd.signals import load_database
 from common import WAIT
 
-#: Bytes and their CRCs: the examples of SWS_CRCLibrary for SAE J1850, 2F, and CCITT.
+#: The inputs and CRCs of the examples in SWS_CRCLibrary, for SAE J1850, 2F and CCITT.
 CRCS = [
     ("00 00 00 00", 0x59, 0x12, 0x84C0),
     ("F2 01 83", 0x37, 0xC2, 0xD374),
@@ -60,7 +60,7 @@ def test_crcs_of_another_program(rng_bytes=bytes(range(256))):
             assert own(data) == other(data)
 
 
-#: The examples of PRS_E2EProtocol: 8 or 16 bytes of zeros, the data ID 123 or 1234, or the data IDs 01 to 10.
+#: The examples of PRS_E2EProtocol: 8 or 16 zero bytes, with the data ID 123 or 1234, or with the data IDs 01 to 10.
 IDS = range(1, 17)
 EXAMPLES = [
     (e2e.Profile1(0x123), 8, 0, "cc 00 00 00 00 00 00 00"),
@@ -91,7 +91,7 @@ def test_examples(profile, size, counter, wanted):
     assert profile.is_right(data) and profile.counter(data) == counter
 
 
-#: Cases without an example in a standard: they follow the words of the standard, with the CRCs of another program.
+#: These modes have no example in a standard. The expected bytes follow the words of the standard, with CRCs by another program.
 def test_other_modes():
     crcmod = pytest.importorskip("crcmod")
     crc = crcmod.mkCrcFun(0x11D, initCrc=0, rev=False, xorOut=0)
@@ -116,7 +116,7 @@ def test_each_bit_counts(profile):
     for bit in range(64):
         wrong = bytearray(right)
         wrong[bit // 8] ^= 1 << bit % 8
-        # Four bits of the data ID are in the message, and only the CRC protects them.
+        # The message may have four bits of the data ID, which only the CRC protects.
         assert not profile.is_right(bytes(wrong))
 
 
@@ -127,7 +127,7 @@ def test_counters_go_round(profile):
     assert found == ["initial"] + ["ok"] * 599
     sent = e2e.Protection(profile)
     counters = [profile.counter(sent.applied(bytes(8))) for _ in range(profile.modulo + 1)]
-    # Profiles 2 and 22 count before they send.
+    # Profiles 2 and 22 increment the counter before they send.
     first = 1 if isinstance(profile, e2e.Profile2) else 0
     assert counters == [(first + number) % profile.modulo for number in range(profile.modulo + 1)]
 
@@ -140,7 +140,7 @@ def test_what_is_found():
     for fault, count in (("repeated", 2), ("wrong crc", 1), ("some lost", 1)):
         protection.inject(fault, count)
     found += [checker.check(protection.applied(bytes(8))) for _ in range(6)]
-    # After a frame with a wrong checksum the counter has advanced by one more.
+    # The frame with the wrong checksum advanced the sender's counter, so the next frame is out of sequence.
     assert found == ["initial", "ok", "repeated", "repeated", "wrong crc", "wrong sequence", "ok", "ok"]
     protection.inject("some lost")
     assert checker.check(protection.applied(bytes(8))) == "some lost"

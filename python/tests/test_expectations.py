@@ -1,4 +1,4 @@
-"""Expectations on a running server: states, frames that came or did not, and the texts of failures."""
+"""Expectations on a running server: states, frames that come or do not come, and the texts of failures."""
 
 import contextlib
 import re
@@ -23,7 +23,7 @@ def observed():
 
 @pytest.fixture
 def can0(observed):
-    """A bus on can0 of that server."""
+    """A bus on can0 of the observed server."""
     with observed.bus("can0") as bus:
         yield bus
 
@@ -62,7 +62,7 @@ def test_frames_are_found_in_their_order(observed, can0):
     )
     assert observed.expect(id=0x123, within=WAIT).data[0] == 0
     assert observed.expect(0x123, b"\x02", within=WAIT).channel == "can1"
-    # The first two frames are taken, and the next frame with this identifier has 29 bits.
+    # The first two frames are taken already, and the next frame with identifier 123 has 29 bits.
     observed.expect_no_frame(id=0x123, within=0.05)
     assert observed.expect(0x123, is_extended_id=True, within=WAIT).is_extended_id
     assert observed.expect(id=0x18DAF110, within=WAIT).is_extended_id
@@ -92,7 +92,8 @@ def test_error_message_frames_are_shown_in_words():
         assert server.expect(id=0x040, is_error_frame=True, channel="can0", within=WAIT).channel == "can0"
         with pytest.raises(AssertionError) as failure:
             server.expect(within=0.05, channel="can1")
-        # ISO 11898-1: a sender counts 8 for each error, a receiver 1. Bus off begins at 256, and empties the queue.
+        # ISO 11898-1: each error adds 8 to the sender's counter and 1 to the receiver's. Bus off begins at 256, and empties the
+        # queue.
         *_, last, sender, receiver = str(failure.value).split("\n")
         assert last.endswith("can0 20000040#0000000000000000  bus off")
         assert sender == "can0 is off (transmit count 256, receive count 0): sent 1, done 0, waiting 0, lost 1"
@@ -143,13 +144,13 @@ def test_what_can_be_observed(observed):
 
 
 def test_all_interfaces_are_observed_without_a_word(pair, server):
-    """a frame that several interfaces receive counts once, and its channel is the first that receives it from
-    another"""
+    """A frame that several interfaces receive counts once. Its channel is the first interface that receives it from another
+    one."""
     can0, can1 = pair
     can0.send(message(0x123, [1]))
     can1.send(message(0x123, [2]))
     can0.send(message(0x124))
-    # Each interface counts separately, including the sender.
+    # Each interface is counted separately, even the sender's.
     assert server.expect(id=0x123, channel="can0", within=WAIT).data == b"\1"
     assert server.expect(id=0x123, channel="can0", within=WAIT).data == b"\2"
     assert server.expect(id=0x123, channel="can1", within=0).data == b"\1"
@@ -168,8 +169,8 @@ def test_each_frame_is_found_once(server, pair):
 
 
 def test_a_frame_is_seen_though_its_receivers_miss_it():
-    """ISO 11898-1: an error passive receiver that sees a fault does not destroy the frame, and only this receiver
-    misses it"""
+    """An error passive receiver that sees an error does not destroy the frame (ISO 11898-1). Only this receiver misses the frame.
+    """
     with Server("can0,can1,can2") as server, server.bus("can0") as can0, server.bus("can1") as can1:
         server.inject(Faults().next(17, sender="can1").destroyed().next(1, sender="can0").local("crc", ["can1"]))
         can1.send(message(0x700))
@@ -186,14 +187,14 @@ def test_short_bus_offs_are_never_missed(auto_restart):
         for number in range(1, 31):
             server.inject(Faults().next(32, sender="can0").destroyed())
             can0.send(message(0x123))
-            # Frames of another node keep attempts going, so that the interface restarts at once.
+            # Frames of can1 keep the attempts going, so that can0 restarts at once.
             server.wait_for(lambda: can0.stats().lost == number, WAIT)
             assert server.expect_state("can0", "off", within=WAIT).tec in (0, 256)
             assert server.expect_state("can0", "active", within=WAIT) == ("active", 0, 0)
 
 
 def test_a_state_that_was_before_does_not_count(server, pair):
-    """the interface is bus off: its earlier active state does not count, and the bus off state counts once"""
+    """After bus off, the earlier state active does not count, and each later state counts."""
     server.inject(Faults().next(32, sender="can0").destroyed())
     pair[0].send(message(1))
     server.wait_for(lambda: server.state("can0") == "off", WAIT)
@@ -208,7 +209,7 @@ def test_a_state_that_was_before_does_not_count(server, pair):
 
 
 def test_a_failure_names_what_was_seen_just_before(server, pair):
-    """no other call has looked for frames before"""
+    """A failure shows the frames up to now, even if no other call has looked for frames before."""
     pair[0].send(message(0x124))
     server.wait_for(lambda: pair[0].stats().done, WAIT)
     with pytest.raises(
@@ -218,7 +219,7 @@ def test_a_failure_names_what_was_seen_just_before(server, pair):
 
 
 def test_more_frames_than_a_socket_holds_are_seen(tmp_path):
-    """nobody expects anything while they come, and a Unix socket holds some 4,000 frames"""
+    """A Unix socket holds some 4,000 frames. More frames than that are seen, although nobody expects a frame while they come."""
     options = {"pace_ms": 0, "txqueue": 64, "rxqueue": 1024, "listen": str(tmp_path / "socket")}
     with Server("can0,can1", **options) as server, server.bus("can0") as can0:
         can0.send_many([message(number % 256, number.to_bytes(2, "big")) for number in range(12_000)], 10 * WAIT)
@@ -228,7 +229,7 @@ def test_more_frames_than_a_socket_holds_are_seen(tmp_path):
 
 
 def test_what_nobody_expects_is_kept_piece_by_piece(monkeypatch):
-    # 7 frames are kept in their session. The others are handed on in groups of 2, and the order is that of the bus.
+    # The session keeps 7 frames. The rest are handed on in groups of 2, in the order of the bus.
     monkeypatch.setattr("canbusd._expect.observer.MOST_UNREAD_FRAMES", 7)
     monkeypatch.setattr("canbusd._expect.observer.FRAMES_AT_ONCE", 2)
     with Server("can0,can1", txqueue=100) as server, server.bus("can0") as can0:
@@ -249,7 +250,7 @@ def test_frames_that_were_dropped_are_no_frames_that_did_not_come(monkeypatch):
             server.expect_no_frame(id=1, within=0)
         can0.send(message(2))
         server.expect(id=2, within=WAIT)
-        # These frames came before.
+        # The frames with identifier 1 came before this frame.
         server.expect_no_frame(id=1, within=0)
 
 
@@ -263,7 +264,7 @@ def test_expecting_from_now(server, pair):
 
 
 def expectations(server, within):
-    """Returns a call of each expectation, with this many seconds."""
+    """Returns one call of each expectation, with this time in seconds."""
     return [
         lambda: server.expect(1, within=within),
         lambda: server.expect_no_frame(1, within=within),
@@ -282,7 +283,7 @@ def test_nobody_waits_a_negative_time(server, within):
 
 
 def test_the_other_identifier_of_the_same_number(server, pair):
-    """the identifier is that of can.Message(arbitration_id=0x123), which has 29 bits"""
+    """can.Message(arbitration_id=0x123) has 29 bits, and a failure names that other identifier."""
     pair[0].send(can.Message(arbitration_id=0x123, data=[1]))
     server.wait_for(lambda: pair[0].stats().done, WAIT)
     came = "\n00000123 with 29 bits came: give can.Message is_extended_id=False, or expect is_extended_id=True\n"

@@ -1,4 +1,4 @@
-"""Frames: candump's spelling, the messages of a session, and error message frames in words."""
+"""Frames: candump's notation, the messages of a session, and error message frames in words."""
 
 import pytest
 
@@ -20,7 +20,7 @@ from canbusd.frames import BadFrame, Frame, command_of, frame_of, meaning
         ("123##1", Frame(0x123, is_fd=True, bitrate_switch=True)),
         ("123##2", Frame(0x123, is_fd=True, error_state_indicator=True)),
         ("123##3", Frame(0x123, is_fd=True, bitrate_switch=True, error_state_indicator=True)),
-        # candump of a newer Linux marks FD frames with 4.
+        # On a newer Linux, candump marks FD frames with flag 4.
         ("123##511", Frame(0x123, b"\x11", is_fd=True, bitrate_switch=True)),
         ("20000204#0008000000006000", Frame(0x204, bytes([0, 8, 0, 0, 0, 0, 0x60, 0]), is_error_frame=True)),
     ],

@@ -1,5 +1,5 @@
-"""Exceptions of signal handlers, as from Ctrl-C and pytest-timeout, at any time of a call: the bus continues to work,
-and ends."""
+"""Exceptions of signal handlers, such as those of Ctrl-C and pytest-timeout, at any time in a call: the bus works on, and can be
+ended."""
 
 import os
 import subprocess
@@ -12,8 +12,8 @@ from common import WAIT
 import canbusd
 from canbusd.server import Server
 
-# A timer interrupts a client again and again. After each interrupt the bus must be in step, and in the end it must shut
-# down. The last line has the number of interrupted calls.
+# A program in which a timer interrupts a client again and again. After each interrupt the bus must still match answers to calls,
+# and at the end it must shut down. The last line has the number of interrupted calls.
 CLIENT = """
 import faulthandler, random, signal, sys, threading, time
 import can
@@ -83,7 +83,7 @@ def test_an_interrupt_leaves_the_bus_in_step(call, reader):
     assert (done.returncode, done.stdout, done.stderr) == (0, "in step\n", "")
 
 
-# A Ctrl-C comes while an unused run's folder is being removed. A shell's background job ignores the signal.
+# A program in which Ctrl-C comes while the folder of an unused run is removed. A background job of a shell ignores the signal.
 FINALIZED = """
 import os, shutil, signal, time
 from canbusd import Bench

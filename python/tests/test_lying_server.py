@@ -1,4 +1,4 @@
-"""A program at the address may not be a canbusd server: no control character from it reaches a terminal."""
+"""A program that listens at the address may be no canbusd server. None of its control characters reaches a terminal."""
 
 import contextlib
 import re
@@ -15,10 +15,10 @@ from forked import forked
 
 HERE = Path(__file__).parent
 WAIT = 60
-# Characters that colour, clear, rename and overwrite a terminal's screen, in 7 and in 8 bits.
+# Control characters in 7 and 8 bits, which colour, clear, rename and overwrite the screen of a terminal.
 EVIL = "\x1b[31m\x1b[2J\x1b]0;title\x07\x9b31m\x00\x08\x7f\r"
 GREETING, OK = "< hi >", "< ok >"
-#: The answers by the first word of a message; `*` is for any other word.
+#: False answers, by the first word of a message. `*` stands for any other word.
 LIES = {
     "greeting": {"": f"{EVIL} SSH-2.0 {EVIL}\n"},
     "refused": {"": f"< error {EVIL} >"},
@@ -66,7 +66,7 @@ def answer(connection, lies):
 
 @contextlib.contextmanager
 def liar(lies):
-    """The address of a server that sends these false answers."""
+    """The address of a server that gives these false answers."""
     with socket.create_server(("127.0.0.1", 0)) as listening:
 
         def serve():
@@ -85,7 +85,7 @@ def liar(lies):
 
 
 def shown(address, words):
-    """Returns the output of a program on its terminal; a program that continues is ended."""
+    """Returns the output of a program on a terminal. A program that does not end is killed."""
     child = subprocess.Popen(
         words, env={**environment(), "CANBUSD_ADDRESS": address}, stdin=subprocess.DEVNULL, stdout=subprocess.PIPE,
         stderr=subprocess.STDOUT,
@@ -102,7 +102,7 @@ def shown(address, words):
 def test_no_control_characters(name, lie):
     with liar(LIES[lie]) as address:
         env = {**environment(), "CANBUSD_ADDRESS": address}
-        # A program that continues is ended.
+        # A command that does not end by itself is killed after 15 seconds.
         _, written, errors = forked(*COMMANDS[name], env=env, longest=15)
     written += errors
     assert "Traceback" not in written
@@ -111,7 +111,7 @@ def test_no_control_characters(name, lie):
 
 @pytest.mark.parametrize("lie", ["greeting", "refused", "names", "other names"])
 def test_canbusd_run(lie):
-    """its messages end at a NUL"""
+    """Messages of canbusd-run end at a NUL."""
     with liar({word: said.replace("\0", "") for word, said in LIES[lie].items()}) as address:
         written = shown(address, [find_program("canbusd-run"), "--interfaces", "can1", "--", "true"])
     assert written.startswith("canbusd-run: ") and not re.findall(r"[^\n\t -~]", written), written

@@ -1,4 +1,4 @@
-"""The package as Python finds it: entry points without an installation, and one version everywhere."""
+"""The package as Python finds it: entry points work without an installation, and the version is the same everywhere."""
 
 import ast
 import configparser
@@ -21,7 +21,7 @@ tomllib = pytest.importorskip("tomllib")
 CLONE = Path(__file__).resolve().parents[2]
 SOURCES = CLONE / "python" / "src"
 (INFO,) = SOURCES.glob("canbusd-*.dist-info")
-# The environment only has PYTHONPATH, as in README.
+# Only PYTHONPATH is set, as in README.
 ENVIRONMENT = {**os.environ, "PYTHONPATH": str(SOURCES), "PYTHONDONTWRITEBYTECODE": "1"}
 TEST = """
 import can, pytest
@@ -54,7 +54,7 @@ def test_the_metadata_of_a_clone_is_that_of_the_wheel():
 
 
 def public_names():
-    """Returns the imports of documents, entry points and launchers, as modules and names."""
+    """Yields the modules and names that documents, entry points and launchers import."""
     texts = [*CLONE.glob("*.md"), *CLONE.glob("docs/*.md"), *CLONE.glob("examples/**/*.py"), *CLONE.glob("tools/*")]
     for path in filter(Path.is_file, texts):
         text = path.read_text(encoding="utf-8")
@@ -65,7 +65,7 @@ def public_names():
     yield from (tuple(f"{place}:".split(":")[:2]) for table in tables for place in table.values())
 
 
-#: Modules that users import, even if no document has an import that is found above.
+#: Modules that users import. A document may import none of them.
 PUBLIC = """
     bench bus candump2bench commands e2e faults frames isotp programs pytest_plugin record replay rest_bus rules server shapes
     signals steps strategies uds virtual
@@ -85,7 +85,7 @@ def test_public_paths_can_be_imported():
         assert not name or hasattr(found, name), f"{module} has no {name}"
 
 
-#: Rooms of the package, each with its top modules for users; a room imports only itself and earlier rooms.
+#: The parts of the package in order, each with its top modules for users. A part imports only itself and earlier parts.
 LAYERS = """
     _text+_words+_python_can+_calls+_whole_file+_placement+_crc+virtual+frames+rules+faults+steps+_reports
     _session
@@ -108,7 +108,7 @@ LAYERS = """
 
 
 def imported(body):
-    """Returns the names of the modules that this code imports during its own import."""
+    """Returns the names of the modules that this code imports when it is imported."""
     for statement in body:
         if isinstance(statement, ast.Import):
             yield from (alias.name for alias in statement.names)
@@ -120,8 +120,7 @@ def imported(body):
 
 
 def package_imports():
-    """Returns, for each module of the package, below `canbusd.`, the package's modules that it imports during its own
-    import."""
+    """Returns the modules of the package, each with the package's modules that it imports when it is imported."""
     paths = (SOURCES / "canbusd").rglob("*.py")
     names = {str(path.relative_to(SOURCES).with_suffix("")).replace("/", "."): path for path in paths}
     trees = {name.removesuffix(".__init__"): ast.parse(path.read_bytes()) for name, path in names.items()}
@@ -142,18 +141,18 @@ def test_layers():
         number, room = rooms[name.split(".")[1]]
         for layer, other_room, other in ((*rooms[other.split(".")[1]], other) for other in others):
             assert layer < number or other_room == room, f"{name} imports {other}, which is of a layer above it"
-    # CycleError means that modules import one another.
+    # prepare() raises CycleError if modules import one another.
     graphlib.TopologicalSorter(found).prepare()
 
 
 def modules_after(statement):
-    """Returns the loaded modules of Python after a statement."""
+    """Returns the names of the modules that Python has loaded after a statement."""
     asks = f"{statement}; import sys; print(*sys.modules)"
     return set(subprocess.check_output([sys.executable, "-c", asks], env=ENVIRONMENT, text=True).split())
 
 
 def test_imports_are_cheap():
-    """slow modules are imported only if needed: `import canbusd` takes a few milliseconds"""
+    """`import canbusd` takes a few milliseconds, because slow modules are imported only when they are needed."""
     alone = modules_after("import canbusd") - modules_after("import importlib, typing")
     assert alone == {"canbusd"}
     most = modules_after("from canbusd import Bench, Faults, Frame, Server, load_database, read_record")
@@ -186,7 +185,7 @@ def test_a_clone_without_an_installation(tmp_path, words):
 
 
 def test_an_older_python():
-    """Python 3.8 would otherwise fail in the middle of a module"""
+    """On Python 3.8 the package reports the old version, and does not fail in the middle of a module."""
     asks = "import sys; sys.version_info = (3, 8, 19, 'final', 0); import canbusd"
     done = subprocess.run([sys.executable, "-c", asks], env=ENVIRONMENT, capture_output=True, text=True, check=False)
     assert done.stderr.endswith("ImportError: canbusd needs Python 3.9 or later, and this is 3.8\n")

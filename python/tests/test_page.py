@@ -1,4 +1,4 @@
-"""The page of a run in a browser: keys, mouse, words, colours and widths. Left out where there is no Chromium."""
+"""The page of a run in a browser: keys, mouse, words, colours and widths. The tests are skipped without Chromium."""
 
 import base64
 import csv
@@ -15,7 +15,7 @@ from canbusd._page.report import page
 from canbusd.record import parse_record
 
 pytestmark = pytest.mark.skipif(PROGRAM is None, reason="no chromium on the PATH")
-# A place in the lane of the first node, 300 pixels from its left.
+# A point in the lane of the first node, 300 pixels from the left edge.
 PLACE = "(() => { const box = at('lanes').getBoundingClientRect(); return [box.left + 300, box.top + 12]; })()"
 ATTEMPT = "attemptOf[view.step]"
 SPAN = "view.to - view.from"
@@ -28,7 +28,7 @@ COLOURS = """(() => {
     return new Set(all.subarray(top * 8, (top + 6) * 8)).size;
   });
 })()"""
-# The texts on the time line.
+# The texts on the time axis.
 WRITTEN = """(() => {
   const said = [], pen = CanvasRenderingContext2D.prototype, write = pen.fillText;
   pen.fillText = function (text, ...more) { said.push(text); write.call(this, text, ...more); };
@@ -36,7 +36,7 @@ WRITTEN = """(() => {
   pen.fillText = write;
   return said;
 })()"""
-# Elements that are cut at the right of the page, or of a box that can't be scrolled and shows no sign of it.
+# Elements that are cut off at the right edge of the page, or of a box that can't be scrolled and shows no sign of the cut.
 CUT = """[...document.querySelectorAll('main *, header *')].filter(one => {
   const style = getComputedStyle(one), isSigned = style.textOverflow === 'ellipsis' || style.webkitLineClamp !== 'none';
   return one.checkVisibility() && one.scrollWidth > one.clientWidth + 1 && style.overflowX === 'hidden' && !isSigned
@@ -44,7 +44,7 @@ CUT = """[...document.querySelectorAll('main *, header *')].filter(one => {
 }).map(one => one.outerHTML.slice(0, 80))"""
 # Rows of lists that are wider than their list.
 WIDE = "[...document.querySelectorAll('.row')].filter(one => one.checkVisibility() && one.scrollWidth > one.clientWidth).length"
-# The contrast of each text with its background, as WCAG 2 defines it, where it is below 4.5.
+# The texts whose contrast with the background, as WCAG 2 defines it, is below 4.5.
 WEAK = """(() => {
   const channels = colour => colour.match(/[\\d.]+/g).map(Number);
   const luminance = ([red, green, blue]) => {
@@ -68,19 +68,19 @@ WEAK = """(() => {
   }
   return weak;
 })()"""
-# The rows of the list that is shown which are marked and in view.
+# The marked rows of the current list that are in view.
 MARKED = """[...lists[tab].body.querySelectorAll('[aria-selected]')].filter(row => {
   const box = lists[tab].box.getBoundingClientRect(), one = row.getBoundingClientRect();
   return one.top >= box.top && one.bottom <= box.bottom + 1;
 }).map(row => row.firstChild.textContent)"""
-# The outcomes in the list of attempts, where the whole of them is seen in their rows.
+# The outcomes in the list of attempts. An outcome that is not completely visible in its row is null.
 OUTCOMES = """[...lists[tab].body.children].map(row => {
   const box = row.getBoundingClientRect(), words = row.querySelector('.mark').parentElement;
   const one = words.getBoundingClientRect();
   const isSeen = one.right <= box.right + 1 && one.bottom <= box.bottom + 1 && one.left >= box.left;
   return isSeen ? words.textContent : null;
 })"""
-# The names of the lanes, where their ends are seen.
+# The ends of the lanes' names. An end that is not visible is null.
 ENDS = """lanes.map((lane, k) => {
   const name = at('gutter').children[k + 1].querySelector('.name'), end = name.lastElementChild;
   return end.getBoundingClientRect().right <= name.getBoundingClientRect().right + 1 ? end.textContent : null;
@@ -90,7 +90,7 @@ TABS = ["tab-events", "tab-attempts", "tab-items", "tab-nodes", "tab-sockets", "
 
 @pytest.fixture
 def opened(browser, tmp_path):
-    """Opens the page of a run, of a bus with these bit rates if there are any."""
+    """A function that opens the page of a run, with these bit rates of its bus if there are any."""
 
     def open_page(run, names=NAMES, rates=None, comparison=None):
         path = tmp_path / "run.html"
@@ -105,7 +105,7 @@ def opened(browser, tmp_path):
 
 @pytest.fixture
 def shown(opened):
-    """The page of can0 that goes bus off in attempt 31."""
+    """The page of a run in which can0 goes bus off in attempt 31."""
     return opened(bus_off())
 
 
@@ -127,7 +127,7 @@ def test_keys(shown):
     assert after("E") == 11
     assert after("ArrowRight") == 12
     assert after("F") == 11
-    # The address follows once no key is held.
+    # The address changes after the key is released.
     shown.until("location.hash === '#attempt=11'")
     assert after("End", "ArrowLeft") and shown.run("titleOf(view.step)") == "2 idle"
     whole = shown.run(SPAN)
@@ -164,7 +164,7 @@ def test_mouse(shown):
     shown.mouse("mouseMoved", x, y)
     said = shown.run("at('tip').textContent")
     attempt = int(said.split()[1])
-    # Each of the attempts before has added 8.
+    # Each attempt up to this one has added 8 to the transmit count.
     assert f"can0 {8 * (attempt + 1)}/0, can1 0/{attempt + 1}" in said
     shown.mouse("mousePressed", x, y, button="left", clickCount=1)
     shown.mouse("mouseReleased", x, y, button="left", clickCount=1)
@@ -172,7 +172,7 @@ def test_mouse(shown):
 
 
 def show_each(shown, width, tabs):
-    """Shows each list in turn: nothing is cut or wider than the page, and all is legible."""
+    """Shows each list in turn, and checks that nothing is cut off or wider than the page, and that every text is legible."""
     for name in tabs:
         shown.run(f"showTab('{name}')")
         shown.settle()
@@ -219,7 +219,7 @@ def test_idle_attempts_are_a_step_and_a_node_that_is_off_is_hatched(shown):
 
 
 def test_a_node_that_is_down(opened):
-    """It is hatched otherwise than one that is bus off, and its states say so."""
+    """A node that is down has another hatching than a node that is bus off, and the texts about its states say `down`."""
     shown = opened(replay_of(EVENTS, 100), NAMES_OF_EVENTS)
     down = "ecu goes down: it takes no part until it is up, and its transmit queue is empty."
     assert [shown.run(f"sentence({step})") for step in (1, 8)] == [
@@ -251,13 +251,13 @@ def test_sixteen_nodes_of_which_one_sends(opened):
     names = [f"can{number}" for number in range(16)]
     record = parse_record("\n".join([*lines, f"end {len(lines) - 2}", ""]).encode(), names=names)
     shown = opened(record.replay, names)
-    # There is room for the identifier of a frame, and for the whole of it once fewer are in view.
+    # The axis has room for the identifiers of frames, and after zooming in also for the data.
     written = shown.run(WRITTEN)
     assert written.count("101") == 10 and "101#0102030405060700" not in written
     for key in ["Home", "+"]:
         shown.key(key)
     assert "101#0102030405060700" in shown.run(WRITTEN)
-    # Counts that are 0 throughout take no room until they are asked for.
+    # Counters that stay 0 are folded until the user opens them.
     assert shown.run("lanes.map(lane => lane.isFolded).join()") == ",".join(["true"] * 16)
     folded = shown.run("at('lanes').clientHeight")
     shown.run("at('gutter').querySelector('button').click()")
@@ -267,7 +267,7 @@ def test_sixteen_nodes_of_which_one_sends(opened):
 
 
 def long_names():
-    """16 nodes with names of 15 letters, of which each sends a frame of 64 bytes; the first one goes bus off with one."""
+    """Sixteen nodes with names of 15 letters, which each send a frame of 64 bytes. The first node goes bus off."""
     names, entries = [f"powertrain_can{number:X}" for number in range(16)], []
     for number in range(16):
         entries += [f"open {number} 256 = socket {number}", f"option {number} fd 1 = ok"]
@@ -292,16 +292,16 @@ def test_long_names_and_frames_have_room(opened, width):
     shown = opened(*long_names())
     shown.size(width)
     show_each(shown, width, TABS)
-    # The outcome of an attempt is in its row, however long name and frame are.
+    # The outcome of an attempt is visible in its row, however long the name and the frame are.
     shown.run("showTab('tab-attempts')")
     shown.settle()
     assert "destroyed" in shown.run(OUTCOMES) and None not in shown.run(OUTCOMES)
-    # So is the end of each name in its lane, by which it differs from the others.
+    # The end of each name, which differs between nodes, is visible in the node's lane.
     assert shown.run(ENDS) == [name[-5:] for name in long_names()[1]]
 
 
 def long_run(count=5000):
-    """can0 sends 123 and 124 in turn, and each 50th attempt fails; then there is a pause of 3 seconds."""
+    """can0 sends 123 and 124 in turn, and each 50th attempt fails. There is one pause of 3 seconds."""
     entries, sent = ["open 0 1 = socket 0", "open 1 65536 = socket 1", "send 0 123# = number 0"], 0
     for number in range(count):
         fails, text = number % 50 == 49, f"12{3 + sent % 2}#"
@@ -339,7 +339,7 @@ def test_sums_and_extremes_are_those_of_the_steps(opened):
 
 def test_by_time_a_pause_looks_like_one(opened):
     shown = opened(long_run())
-    # The pause of 3 s is before attempt 4000; with it the run takes 8 s.
+    # The pause of 3 s comes before attempt 4000, and the whole run takes 8 s.
     gap = "(axis.start[4000] - axis.start[3999]) / axis.length"
     assert shown.run(gap) == pytest.approx(1 / 5000, rel=0.1)
     shown.key("t")
@@ -358,7 +358,7 @@ def test_lists_follow_the_chosen_attempt(opened):
         for name in ("tab-attempts", "tab-items"):
             shown.run(f"showTab('{name}')")
             shown.settle()
-            # A destroyed frame comes to no socket.
+            # No socket receives a destroyed frame.
             belonging = [] if name == "tab-items" and number % 50 == 49 else [f"{number:,}"]
             assert shown.run(MARKED) == belonging
         shown.run("showTab('tab-attempts')")
@@ -374,7 +374,8 @@ def test_events_follow(shown):
 
 
 def test_time_since_the_start(opened):
-    """beside moments of the clock, in the list of events; a bench's moments begin with the run"""
+    """The list of events shows the time since the start next to the time of day. On a bench all times count from the start of the
+    run."""
     cells = "[...document.querySelectorAll('#events .row')].map(row => [2, 3].map(k => row.children[k].textContent))"
     start = 1_732_540_000
     attempts = [
@@ -398,7 +399,7 @@ def test_time_since_the_start(opened):
 
 
 def test_statistics_of_identifiers(opened):
-    """100 comes after 10, 12 and 8 ms, 200 after 10.5 ms, and 300 once"""
+    """Frame 100 comes after gaps of 10, 12 and 8 ms, 200 after a gap of 10.5 ms, and 300 only once."""
     tried = [
         ("0.000000", "0 0 100#01"), ("0.001000", "1 0 200#AA"), ("0.010000", "0 1 100#02"), ("0.011500", "1 1 200#AB"),
         ("0.022000", "0 2 100#03"), ("0.023000", "0 3 300#"), ("0.030000", "0 4 100#04"),
@@ -441,13 +442,13 @@ def test_filters(opened):
     shown.run("look(0, 100), at('in-view').click()")
     assert found() == "100 of 5,000"
     shown.run("showTab('tab-items')")
-    # Two of the 100 were destroyed, and came to no socket.
+    # Two of the 100 frames were destroyed, so no socket received them.
     assert found() == "98 of 4,900"
     assert found(of_fate="3") == "0 of 4,900"
 
 
 def test_interfaces_that_never_sent(opened):
-    """have no name in the log, and the page says how they get one"""
+    """An interface that never sent has no name in the log. The page says how to name it."""
     shown = opened(bus_off(), ("can0", "interface 1"))
     assert shown.run("at('facts').textContent").endswith(
         " No log beside the record names all interfaces: --names NAME,.. does."
@@ -485,7 +486,7 @@ def test_a_held_key_and_the_load(opened):
           }}
         }})()"""
         )
-        # Of the processor, whatever else the machine does.
+        # This is processor time, which does not depend on other work of the machine.
         assert (used() - before) / count < 0.033
 
 
@@ -526,7 +527,7 @@ def test_tabs_are_chosen_by_arrow_keys(shown):
 
 
 def test_a_clean_run_begins_with_its_attempts(opened):
-    """there are no events to be seen"""
+    """The list of events is hidden, because the run has no events."""
     shown = opened(
         record_of(
             "open 0 256 = socket 0", "send 0 123# = number 0", "attempt 0.000001 good = tried 0 0 123# done 0002 0000"
@@ -544,7 +545,7 @@ def test_moments_of_the_clock_are_times_of_day(opened):
             f"attempt {start}.500000 good = tried 0 0 123# done 0002 0000",
         )
     )
-    # As the browser's own formatter of dates has it.
+    # The time of day has the form of the browser's own formatter of dates.
     words = "{ hour: '2-digit', minute: '2-digit', second: '2-digit', hourCycle: 'h23' }"
     time_of_day = shown.run(f"new Intl.DateTimeFormat('en', {words}).format(new Date({start}000))")
     assert shown.run("at('chosen').textContent").startswith(f"Attempt 0 at {time_of_day}.500000")
@@ -554,7 +555,8 @@ def test_moments_of_the_clock_are_times_of_day(opened):
 
 
 def test_the_address_follows_what_is_chosen(shown, browser):
-    """and the page that it opens shows the same: the attempt, both cursors, the axis, what is in view, the list and its filters"""
+    """The address holds the attempt, both cursors, the axis, the view, the list and its filters. A page that is opened with it
+    shows the same."""
     shown.key("t")
     shown.run("choose(12), markStep(3), look(1e-5, 2e-5), showTab('tab-attempts')")
     shown.run("at('of-outcome').value = '2', at('of-frame').value = '123#', at('in-view').click(), find(tab)")
@@ -567,7 +569,7 @@ def test_the_address_follows_what_is_chosen(shown, browser):
     assert address.split("#")[1].startswith("attempt=12&")
     shown.open(address)
     assert shown.run(state) == before
-    # One that is typed into the page that is shown.
+    # An address that is typed into the open page is followed too.
     shown.run("location.hash = '#attempt=15'")
     shown.until(f"{ATTEMPT} === 15 && tab === 'tab-events'")
     assert shown.run("[second.step, byTime.isOn, view.from, view.to === axis.length]") == [None, False, 0, True]
@@ -577,12 +579,12 @@ def test_the_address_follows_what_is_chosen(shown, browser):
 
 
 def test_two_cursors(shown):
-    """how long it is from one to the other, by the key, the button and the mouse"""
+    """The page shows the time between two cursors, which are set by the key, the button or the mouse."""
     shown.run("choose(20)")
     shown.key("m")
     assert shown.run("at('second-cursor').hidden") is False
     shown.run("choose(11)")
-    # Attempts are a microsecond apart.
+    # The attempts are a microsecond apart.
     assert "Since the mark, attempt 20: -0.000009 s, 9 attempts before it." in shown.run("at('chosen').textContent")
     shown.run("choose(31)")
     assert "Since the mark, attempt 20: 0.000011 s, 11 attempts after it." in shown.run("at('chosen').textContent")
@@ -595,7 +597,7 @@ def test_two_cursors(shown):
 
 
 def test_a_list_as_csv(shown):
-    """as it is filtered; numbers without groups, and quotes as RFC 4180 has them"""
+    """The CSV has the filtered rows. Its numbers have no group separators, and quotes follow RFC 4180."""
     rows = list(csv.reader(io.StringIO(shown.run("csvOf(lists[tab], at(tab))"))))
     assert rows[0] == ["attempt", "moment", "since last", "kind", "what"]
     assert rows[1] == ["11", "0.000012", "", "warning", "can0 is error warning: transmit count 96"]
@@ -611,7 +613,8 @@ def test_a_list_as_csv(shown):
 
 
 def test_states_without_colour(shown):
-    """warning is a frame or low, passive full, bus off hatched: so each has another share of what is filled"""
+    """States can be told apart without colour, because each fills another share of its band: warning is a frame or low, passive is
+    full, bus off is hatched."""
     shares = """[1, 2, 3].map(state => [40, 3].map(wide => {
       const pen = new OffscreenCanvas(48, 16).getContext('2d', { willReadFrequently: true });
       const measured = pen.measureText.bind(pen);

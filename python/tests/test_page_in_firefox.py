@@ -1,4 +1,4 @@
-"""The page of a run in Firefox; test_page.py has more, in Chromium. Left out where there is no Firefox."""
+"""The page of a run in Firefox. test_page.py has more tests, in Chromium. These tests are skipped without Firefox."""
 
 import pytest
 from firefox import PROGRAM, Firefox
@@ -22,7 +22,7 @@ def firefox(tmp_path_factory):
 
 @pytest.fixture
 def opened(firefox, tmp_path):
-    """Opens the page of a run."""
+    """A function that opens the page of a run."""
 
     def open_page(run):
         path = tmp_path / "run.html"

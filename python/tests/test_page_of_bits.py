@@ -1,4 +1,4 @@
-"""The bits of the chosen attempt on the page of a run, in a browser. Left out where there is no Chromium."""
+"""The bits of the chosen attempt on the page of a run, in a browser. The tests are skipped without Chromium."""
 
 import pytest
 from browser import PROGRAM
@@ -8,14 +8,14 @@ from test_report import record_of
 pytestmark = pytest.mark.skipif(PROGRAM is None, reason="no chromium on the PATH")
 TABLE = """[...document.querySelectorAll('#chosen table')]
   .find(one => one.previousElementSibling.textContent.startsWith('Bits on the wire'))"""
-# The rows of the table: stuff bits in parentheses, and what is marked in braces.
+# The rows of the table. Stuff bits are in parentheses, and marked bits in braces.
 ROWS = f"""[...({TABLE}).rows].slice(1).map(row => {{
   const said = one => one.tagName === 'U' ? `(${{one.textContent}})`
     : one.tagName === 'MARK' ? `{{${{[...one.childNodes].map(said).join('')}}}}` : one.textContent;
   const [field, bits, notes] = row.cells;
   return [field.textContent, [...bits.firstChild.childNodes].map(said).join(''), notes.textContent];
 }})"""
-# 000# by hand: 34 zeros with a stuff bit after each five. 001# loses in the last bit of the identifier, the 14th bit.
+# The bits of 000# by hand: 34 zeros, with a stuff bit after each five. 001# loses in the last bit of its identifier, the 14th bit.
 ZEROS = [
     ["SOF", "0", ""],
     ["identifier", "0000(1)00000(1)0{0}", "can1 falls silent in bit 13"],
@@ -34,7 +34,7 @@ ZEROS = [
 
 @pytest.fixture
 def shown(opened):  # noqa: F811
-    """The page of a run in which can1 loses to can0 twice, and has faults then."""
+    """The page of a run in which can1 loses arbitration to can0 twice, and then has faults."""
     return opened(
         record_of(
             "open 0 256 = socket 0",
@@ -51,7 +51,7 @@ def shown(opened):  # noqa: F811
 
 
 def rows_at(shown, attempt):
-    """The rows of the table of an attempt."""
+    """Returns the rows of the table for an attempt."""
     shown.run(f"choose({attempt})")
     return shown.run(ROWS)
 
@@ -85,7 +85,7 @@ def test_stuff_bits_are_seen_without_colours(shown):
 
 
 def focused(shown, *keys):
-    """The field that has the focus after these keys, if it is seen that it has."""
+    """Returns the field that has the focus after these keys, or None if the focus is not visible."""
     for key in keys:
         shown.key(key)
     return shown.run(
@@ -99,7 +99,7 @@ def focused(shown, *keys):
 
 def test_keys_in_the_table(shown):
     shown.run("choose(1), at('csv').focus()")
-    # Only the rows of the list and the table itself come after the last button.
+    # After the last button, Tab reaches only the rows of the list and the table.
     reached = [focused(shown, "Tab") for _ in range(4)]
     assert "SOF" in reached and reached[-1] is None
     shown.run("at('csv').focus()")
@@ -108,7 +108,7 @@ def test_keys_in_the_table(shown):
         before = shown.run("document.activeElement.textContent")
     assert focused(shown, "ArrowUp") == "SOF"
     assert focused(shown, "ArrowDown") == "identifier"
-    # Left and right choose attempts, as everywhere on the page.
+    # The left and right arrow keys choose attempts, as everywhere on the page.
     assert focused(shown, "ArrowRight") == "identifier" and shown.run("view.step") == 2
     assert focused(shown, "End") == "intermission"
     assert focused(shown, "ArrowDown") == "intermission"

@@ -1,5 +1,4 @@
-"""Programs with CAN sockets on the buses of a server: programs that run to their end, and programs that keep
-running."""
+"""Programs with CAN sockets on the buses of a server: some run to their end, and some keep running."""
 
 import contextlib
 import os
@@ -18,7 +17,7 @@ from canbusd import Server, ServerError
 from canbusd._process.output import BLOCK, MOST, Output, Search
 from canbusd.programs import Program, words_of
 
-# A node for SocketCAN, which prints received frames.
+# A node for SocketCAN, which prints each received frame.
 NODE = """
 import socket, struct, sys
 with socket.socket(socket.PF_CAN, socket.SOCK_RAW, socket.CAN_RAW) as node:
@@ -28,7 +27,7 @@ with socket.socket(socket.PF_CAN, socket.SOCK_RAW, socket.CAN_RAW) as node:
         print("received %X" % struct.unpack("=I", node.recv(16)[:4]), flush=True)
 """
 STAYS = [sys.executable, "-c", NODE]
-# The program survives SIGTERM, and prints a note.
+# A program that ignores SIGTERM, and prints a note.
 STUBBORN = [
     sys.executable,
     "-c",
@@ -126,7 +125,7 @@ def test_one_that_ends_by_itself():
         "  one",
         "  two",
     ]
-    # One occurrence is enough.
+    # The expected line needs to occur only once.
     assert server.stop().status == 0
 
 
@@ -148,7 +147,7 @@ def test_a_server_that_is_killed():
     assert other.stop().status == -signal.SIGKILL
 
 
-# Starts a program, prints its process numbers, and ends, or does not.
+# A Python program that starts a program, prints the process ids, and then ends in one of several ways.
 STARTS = """
 import os, signal, sys, threading, time
 from canbusd import Server
@@ -156,7 +155,7 @@ server = Server("can0", listen=sys.argv[1])
 program = server.start(["sh", "-c", sys.argv[2]])
 print(program.pid, program.expect("\\n"), flush=True)
 """
-# A process that ends at SIGTERM, a process that does not, and a process with another one in its group.
+# A shell program that ends at SIGTERM, one that does not, and one with a second process in its group.
 MEEK, STUBBORN_ONE, TWO = (
     "echo; exec sleep 1000",
     "trap '' TERM; echo; sleep 1000",
@@ -169,7 +168,7 @@ ENDS = {
     "exec": "os.execv('/bin/true', ['true'])",
     "SIGKILL": "os.kill(os.getpid(), signal.SIGKILL)",
     "SIGTERM": "os.kill(os.getpid(), signal.SIGTERM)",
-    # The output of a forked process that continues until its input ends.
+    # The forked child keeps the output open until its input ends.
     "SIGKILL beside a child": "os.fork() or os.read(0, 1)\nos.kill(os.getpid(), signal.SIGKILL)",
     "SIGKILL in a thread": "threading.Thread(target=lambda: os.kill(os.getpid(), signal.SIGKILL)).start()\ntime.sleep(100)",
 }
@@ -191,11 +190,11 @@ def wait_until_ended(pids, seconds=WAIT):
     ],
 )
 def test_one_that_nobody_stops(program, end, tmp_path):
-    """the program ends with the process that started it, however that ends, and so does the rest of its group"""
+    """The program and its whole group end together with the process that started them, however that process ends."""
     words = [sys.executable, "-c", STARTS + ENDS[end], f"{tmp_path}/socket", program]
     read, write = os.pipe()
     try:
-        # The program's child may have the pipe, so the test does not wait for the pipe's end.
+        # The pipe may stay open in a child of the program, so the test does not wait for the end of the pipe.
         with open(tmp_path / "output", "w+b") as file:
             child = subprocess.Popen(words, stdin=read, stdout=file, stderr=subprocess.STDOUT)
             child.wait(WAIT)
@@ -218,7 +217,7 @@ def test_the_end_of_the_thread_that_started_it_is_none_of_its(server):
 
 
 def children():
-    """Returns the processes that this process has started and not waited for."""
+    """Returns the ids of the child processes that have not been waited for."""
     found = set()
     for task in Path("/proc/self/task").iterdir():
         found.update((task / "children").read_text().split())
@@ -226,7 +225,7 @@ def children():
 
 
 def test_nothing_is_left_of_one_that_has_ended(server):
-    """otherwise another process with the same number would be ended"""
+    """An ended program leaves no process, so no later signal hits another process with the same id."""
     before = children()
     for ended in (
         lambda one: one.wait(WAIT),
@@ -247,31 +246,31 @@ def test_nothing_is_left_of_one_that_did_not_start(server):
 
 
 def test_one_that_is_forgotten(server):
-    """the program ends, like a server without references"""
+    """A program ends when no reference to it is left, as a server does."""
     pid = Program(["sleep", "1000"], [], server._folder / "forgotten", False).pid
     until = time.monotonic() + WAIT
-    # If the program is over when Python frees the object, Python has waited for it.
+    # If the program has ended before Python frees the object, Python waits for it itself.
     with contextlib.suppress(ChildProcessError):
         while os.waitpid(pid, os.WNOHANG) == (0, 0):
             assert time.monotonic() < until
             time.sleep(0.02)
 
 
-# The output is more than is read within the time of an expectation, but fits on a disk.
+# A program that writes more than is read during an expectation, but not more than the disk holds.
 ENDLESS = "import os, signal\nfor _ in range(3000): os.write(1, b'x' * 99_999 + b'\\n')\nsignal.pause()"
 
 
 def peak():
-    """Returns the peak memory of this process, in bytes."""
+    """Returns the peak memory of this process in bytes."""
     return int(re.search(r"VmHWM:\s+(\d+)", Path("/proc/self/status").read_text())[1]) * 1024
 
 
 @pytest.mark.parametrize("within", [0, 0.5, 2])
 def test_an_expectation_beside_one_that_writes_without_end(server, within):
-    """the expectation keeps its time, and takes no more memory than 10 MB"""
+    """An expectation ends in time, and takes at most 10 MB of memory."""
     endless = server.start([sys.executable, "-c", ENDLESS])
     endless.expect("x", within=WAIT)
-    # This makes the peak memory equal to the present memory.
+    # This resets the peak memory to the present memory.
     Path("/proc/self/clear_refs").write_text("5")
     memory, start = peak(), time.monotonic()
     with pytest.raises(
@@ -284,8 +283,7 @@ def test_an_expectation_beside_one_that_writes_without_end(server, within):
 
 
 def test_a_long_output(tmp_path):
-    """a text is found anywhere, also between two blocks; the returned output is the last megabyte up to the text's
-    end"""
+    """A text is found at any place, even across two blocks. The returned output is the last megabyte up to the end of that text."""
     path = tmp_path / "output"
     for place in (0, BLOCK - 3, 5 * MOST):
         path.write_bytes(b"." * place + b"\xc3\xa4\r\nneedle" + b"," * MOST + b"\n")
@@ -298,7 +296,7 @@ def test_a_long_output(tmp_path):
 
 
 def test_a_search_that_goes_on(tmp_path):
-    """the search continues while output is written, even in the middle of a character"""
+    """A search goes on while output is written, even in the middle of a character."""
     path = tmp_path / "output"
     with open(path, "wb", buffering=0) as file, Search(path, "b\u20acd\ne") as search:
         for byte in "ab\u20acd\r\ne".encode():
@@ -320,8 +318,8 @@ def test_an_expectation_that_fails(server):
 
 
 def test_a_program_that_can_not_be_started(server, tmp_path):
-    """the error is that of subprocess, whatever the environment and the folder are; a status of the program itself is
-    returned"""
+    """A program that does not exist raises the error of subprocess, in any environment and folder. A status of the program itself
+    is returned."""
     (tmp_path / "plain").write_text("")
     (tmp_path / "script").write_text("#!/bin/sh\nexit 127\n")
     (tmp_path / "script").chmod(0o755)
@@ -336,7 +334,7 @@ def test_a_program_that_can_not_be_started(server, tmp_path):
         for words, more in ((f"{tmp_path}/plain", {}), ("./plain", {"cwd": tmp_path}), ("plain", {"env": there})):
             with pytest.raises(PermissionError):
                 call(words, **more)
-    # The launcher of a clone is a script of bash.
+    # The launcher of a clone is a bash script, so the PATH must have bash.
     there = {"PATH": f"{tmp_path}:{os.environ['PATH']}"}
     for words, more in (("script", {"env": there}), ("./script", {"cwd": tmp_path}), ("sh -c 'exit 127'", {})):
         assert server.run(words, **more).returncode == 127

@@ -40,7 +40,7 @@ def run(pytester, monkeypatch):
     def run(text, *words):
         body = "\n".join(line[4:] for line in text.split("\n"))
         pytester.makepyfile("import can, canbusd, pytest\n" + body)
-        # An installed package has loaded this module already.
+        # If the package is installed, pytest loads the plugin by itself.
         words = (
             "-p",
             "canbusd.pytest_plugin",
@@ -55,7 +55,7 @@ def run(pytester, monkeypatch):
 
 
 def kept(pytester):
-    """Returns the names of the files that remain of the runs."""
+    """Returns the names of the files that were kept of the runs."""
     return sorted(path.name for path in (pytester.path / "kept").rglob("*") if path.is_file())
 
 
@@ -130,7 +130,8 @@ def test_a_failed_test_in_a_junit_file(run, pytester):
 
 
 def test_a_program_that_dies_fails_the_test(run):
-    """its output and status are in the report, like those of a program that the end of a failed test has ended"""
+    """The report shows the output and the status of a program that died, as it does for a program that was ended after a failed
+    test."""
     result = run(
         """
     def test_death(canbusd):
@@ -269,7 +270,7 @@ def test_rules_that_gave_no_verdict(run, pytester):
 
 
 def test_a_server_that_dies(run):
-    """a test may kill its server; a server that crashes fails the test"""
+    """A test may kill its server. If the server crashes, the test fails."""
     result = run(
         """
     def test_it_is_killed(canbusd):
@@ -387,7 +388,7 @@ def test_what_a_marker_may_not_say(run):
     )
     result.stdout.fnmatch_lines([f"{mark}('a', database='nowhere.dbc'): *No such file*"])
     result.stdout.fnmatch_lines([f"{mark}('a', faults='next 1 lost'): *script line 1: bad line"])
-    # The output shows only this of each, and no source of the package.
+    # For each error, only this text is shown, and no source of the package.
     assert "def __init__" not in result.stdout.str() and "Traceback" not in result.stdout.str()
     assert result.stdout.str().count("pytest_plugin.py") == 0
 
@@ -498,7 +499,7 @@ def test_a_test_that_has_to_fail_has_not_failed(run, pytester):
 
 @pytest.mark.parametrize("fixture", ["canbusd", "canbusd_bench"])
 def test_a_test_that_is_interrupted_has_failed(run, pytester, fixture):
-    """the interrupt is like Ctrl-C; the files of the test before are gone"""
+    """An interrupted test fails, as after Ctrl-C. The files of the test before are removed."""
     result = run(
         f"""
     def test_it_passes({fixture}):
@@ -523,7 +524,7 @@ def test_no_links_that_lead_nowhere(run, pytester):
 
 @pytest.mark.parametrize("fixture", ["canbusd", "canbusd_bench"])
 def test_a_pytest_that_is_killed(run, pytester, monkeypatch, fixture):
-    """its leftovers are below its own folder, which the next pytest removes"""
+    """A killed pytest leaves files only in its own folder, which the next pytest removes."""
     (pytester.path / "tmp").mkdir()
     monkeypatch.setenv("TMPDIR", str(pytester.path / "tmp"))
     run(
@@ -580,7 +581,7 @@ def test_an_expectation_that_fails_shows_what_was_seen(run):
             "E * (*) can1 123#0102",
         ]
     )
-    # The fault is shown at the line of the test.
+    # The failure is shown at the line of the test.
     done.stdout.no_fnmatch_line("*expectations.py*")
 
 
@@ -603,7 +604,7 @@ def test_a_database_is_in_the_failure_and_on_the_page(run, pytester):
 
 
 def test_a_server_that_tests_share_is_expected_from_each_test_on(run):
-    """frames that a test's fixtures cause count for the test"""
+    """Frames that are sent during a fixture of a test can be expected in that test."""
     done = run(
         """
     @pytest.fixture(scope="module")

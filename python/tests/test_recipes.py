@@ -1,4 +1,4 @@
-"""The recipes: each is a file of tests in examples/recipes, which runs unchanged, and is in the document."""
+"""Each recipe is a file of tests in examples/recipes. It runs unchanged, and is printed in the document."""
 
 import ast
 import importlib.util
@@ -24,12 +24,12 @@ NEEDED = {
 
 
 def recipes():
-    """The file of each recipe, by name."""
+    """Returns the path of each recipe, by its name."""
     return {path.stem[len("test_") :]: path for path in sorted(RECIPES.glob("test_*.py"))}
 
 
 def run(installed, folder, names, *words, **environment):
-    """Runs copies of recipes; returns the output of pytest."""
+    """Runs copies of recipes, and returns the output of pytest."""
     for name in names:
         shutil.copy(recipes()[name], folder)
     done = subprocess.run(
@@ -41,7 +41,7 @@ def run(installed, folder, names, *words, **environment):
 
 @pytest.fixture(scope="module")
 def written(installed, request):
-    """What pytest wrote of all recipes whose modules are installed."""
+    """The output of pytest for all recipes whose modules are installed."""
     there = [name for name in recipes() if name not in NEEDED or importlib.util.find_spec(NEEDED[name])]
 
     def make(folder):
@@ -76,7 +76,7 @@ def test_a_recipe(written, name):
 
 
 def test_virtual_time(installed, tmp_path):
-    """all recipes run, except those whose programs use the real clock"""
+    """All recipes run in virtual time, except those whose programs use the real clock."""
     others = ("a_virtual_ecu", "a_go_node")
     there = [name for name in recipes() if name not in others]
     names = [name for name in there if name not in NEEDED or importlib.util.find_spec(NEEDED[name])]
@@ -87,7 +87,7 @@ def test_virtual_time(installed, tmp_path):
 
 @pytest.mark.skipif(not shutil.which("gcc") or not shutil.which("candump"), reason="no gcc or no can-utils")
 def test_the_first_found_fault(installed, tmp_path):
-    """the commands of the recipe run, one after the other in a clone"""
+    """The commands of this recipe work one after the other in a clone."""
     text = DOCUMENT.read_text(encoding="utf-8").partition("## The first found fault\n")[2].partition("\n## ")[0]
     commands = re.findall(r"^ +\$ (.*(?:\n {9,}\S.*)*)", text, re.M)
     (test,) = re.findall(r"^```python\n(.*?)^```$", text, re.M | re.S)

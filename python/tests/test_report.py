@@ -1,4 +1,4 @@
-"""The page of a run: its words, and the data for its script."""
+"""The page of a run: its words, and the data for its JavaScript."""
 
 import base64
 import json
@@ -25,8 +25,8 @@ def record_of(*entries, bus="2 always 0000 10 10000", version=1):
 
 
 def bus_off():
-    """The frame of can0 is destroyed 32 times, which adds 8 each time; can0 restarts in the second attempt after
-    that."""
+    """Returns a run in which can0's frame is destroyed 32 times, which adds 8 to its counter each time. can0 restarts in the second
+    attempt after that."""
     return record_of(
         "open 0 256 = socket 0",
         "send 0 123# = number 0",
@@ -46,7 +46,7 @@ def events_in(run):
 
 
 def data_of(text):
-    """Returns the data of a page: its header, and a function that reads a column."""
+    """Returns the header of a page's data, and a function that reads a column of the data."""
     coded = re.search(r'<script type="text/plain" id="run">([^<]*)</script>', text)[1]
     whole = zlib.decompress(base64.b64decode(coded))
     (size,) = struct.unpack("<I", whole[-4:])
@@ -56,7 +56,7 @@ def data_of(text):
         code, place, length = one[:3]
         numbers = array(code)
         count = length * numbers.itemsize
-        # The lowest byte comes first.
+        # The lowest byte of a number comes first.
         numbers.frombytes(b"".join(whole[place + k : place + count : length] for k in range(length)))
         for k in range(1, length if one[3:] else 0):
             numbers[k] += numbers[k - 1]
@@ -103,8 +103,8 @@ def test_durations(micros, words):
 
 
 def test_how_long_a_node_was_off():
-    """the outage is shown in time and in attempts of others, from the attempt that caused bus off to the last one
-    before the return"""
+    """An outage is shown in seconds and in attempts of other nodes: it lasts from the attempt that caused bus off to the last one
+    before the restart."""
     with Bench("can0,can1", faults=Faults().destroyed(range(32))) as bench:
         can0, can1 = bench.open("can0"), bench.open("can1")
         can0.send(0x123)
@@ -170,7 +170,7 @@ def test_idle_attempts_are_steps_between_the_others():
     assert [KINDS[kind] for kind in kinds] == ["destroyed"] * 32 + ["idle", "restart"]
     assert column(header["steps"]["number"])[32] == 2
     assert column(header["tec"][0]) == [8 * k for k in range(1, 33)] + [256, 0]
-    # Events name places among these steps.
+    # The numbers of steps in events are places in these columns.
     assert [event[:3] for event in header["events"]][-1] == [33, "restart", 0]
     assert header["first"] == 31
 
@@ -180,13 +180,13 @@ def test_the_rule_of_an_attempt():
     header, column = data_of(page(bus_off(), NAMES, "run.rec", rules=rules))
     faults = [header["verdicts"][place] for place in column(header["steps"]["verdict"])]
     assert faults[:32] == ["global bit, by `next 31 from can0 global bit`"] * 31 + ["global bit"]
-    # A run that was cut off has fewer steps.
+    # The rules may cover fewer steps, if they come from a record that was cut off.
     header, _ = data_of(page(bus_off(), NAMES, "run.rec", rules=rules[:1]))
     assert header["verdicts"][:2] == ["global bit, by `next 31 from can0 global bit`", "global bit"]
 
 
 def rules_on(text):
-    """Returns the rules of the rows on a page; the empty text for a row without a rule."""
+    """Returns the rule of each row on a page, or the empty text if the row has no rule."""
     header, column = data_of(text)
     verdicts = [header["verdicts"][place] for place in column(header["steps"]["verdict"])]
     return [verdict.partition(", by ")[2].strip("`") for verdict in verdicts]
@@ -230,7 +230,7 @@ def test_items_say_what_became_of_them():
         "taken",
         "dropped",
     ]
-    # The first frame was in its queue until after the second step.
+    # The first frame stayed in its queue until the second step was over.
     assert column(header["items"]["end"])[0] == 2
     header, column = data_of(page(run, NAMES, "run.rec", most_items=1))
     assert (column(header["items"]["step"]), header["itemsInAll"]) == ([0], 2)

@@ -1,5 +1,5 @@
-"""The rest bus: the frames of the other nodes in rest.dbc, with bytes worked out by hand, on a bench and by a
-server."""
+"""The rest bus sends the frames of the other nodes in rest.dbc, on a bench and on a server. The bytes of the frames were worked out
+by hand."""
 
 import gc
 import signal
@@ -23,7 +23,7 @@ from canbusd.virtual import is_virtual
 
 pytest.importorskip("canmatrix", reason="canmatrix is not installed (python3-canmatrix)")
 REST = Path(__file__).with_name("rest.dbc")
-# The identifiers of EngineData, EngineStatus, GatewayPage and GatewayEvent.
+# The identifiers of the messages EngineData, EngineStatus, GatewayPage and GatewayEvent.
 DATA, STATUS, PAGE, EVENT = 0x100, 0x200, 0x300, 0x400
 
 
@@ -40,7 +40,7 @@ def rest_of(bench, **more):
 
 
 def sent(session, identifier):
-    """Returns the data of the frames with this identifier that a session has received."""
+    """Returns the data of the frames with this identifier that a session has received, in hexadecimal."""
     return [frame.data.hex() for frame in session.receive() if frame.arbitration_id == identifier]
 
 
@@ -52,7 +52,7 @@ def test_each_message_at_its_cycle_time(bench):
     counts = {identifier: 0 for identifier in (DATA, STATUS, PAGE)}
     for frame in frames:
         counts[frame.arbitration_id] += 1
-    # The cycle times are 10, 100 and 20 ms; the second message begins after 35 ms.
+    # The cycle times are 10, 100 and 20 ms. The second message has a start delay of 35 ms.
     assert counts == {DATA: 100, STATUS: 10, PAGE: 50}
     assert {attempt.outcome for attempt in attempts} == {"done"}
     assert {(attempt.winner, attempt.frame[:3]) for attempt in attempts} == {
@@ -77,7 +77,7 @@ def test_the_start_delay_of_the_file(bench):
     ecu = bench.open("ecu", [{"can_id": STATUS, "can_mask": 0x7FF}])
     with rest_of(bench) as rest:
         rest.run(until=0.1)
-    # The frame begins at 35 ms, and ends after 62 bits and at most 12 stuff bits for 2 bytes, of 2 us each.
+    # The frame starts at 35 ms. With 2 data bytes it has 62 bits, of 2 us each, and at most 12 stuff bits.
     [frame] = ecu.receive()
     assert 0.035 + 62 * 2e-6 - 10e-6 <= frame.timestamp <= 0.035 + 74 * 2e-6
 
@@ -94,7 +94,7 @@ def test_values(bench):
         rest.run(until=0.06)
         assert rest["Engine"]["EngineSpeed"] == 3000
         frames = ecu.receive()
-    # 800 / 0.25 is 0C80, 3000 / 0.25 is 2EE0, and 20 + 40 is 3C.
+    # 800 / 0.25 is 0C80, 3000 / 0.25 is 2EE0, and 20 + 40 is 3C in hexadecimal.
     data = [frame.data.hex() for frame in frames if frame.arbitration_id == DATA]
     assert data == ["800c000000000000"] + ["e02e3c0000000000"] * 5
     assert [frame.data.hex() for frame in frames if frame.arbitration_id == STATUS] == ["0205"]
@@ -127,7 +127,7 @@ def test_values_that_are_none(bench, node, name, value, said):
 def test_multiplexed_signals(bench):
     ecu = bench.open("ecu")
     rest = rest_of(bench)
-    # Each signal is present if the multiplexer selects it.
+    # Each of these signals is sent if the multiplexer selects it.
     rest["Gateway"]["Left"], rest["Gateway"]["Right"] = -1, 10
 
     def turn(message):
@@ -136,7 +136,7 @@ def test_multiplexed_signals(bench):
     rest.on_send("GatewayPage", turn)
     with rest:
         rest.run(until=0.1)
-    # -1 / 0.5 is FFFE, and 10 / 2 is 05.
+    # -1 / 0.5 is FFFE, and 10 / 2 is 05 in hexadecimal.
     assert sent(ecu, PAGE) == ["00feff", "010500", "00feff", "010500", "00feff"]
 
 
@@ -151,9 +151,9 @@ def test_counters_and_checksums(bench):
     rest.on_send("EngineData", protect)
     with rest:
         rest.run(until=0.18)
-        # 80 + 0C is 8C.
+        # The checksum is 80 + 0C = 8C.
         assert sent(ecu, DATA) == [f"800c00000000{0x8C:02x}{count % 16:02x}" for count in range(18)]
-        # The value that the function sets is only in its frame.
+        # The value that the function sets goes only into that frame.
         assert rest["Engine"]["EngineData.Counter"] == 0
         rest.on_send("EngineData", None)
         rest.run(until=0.19)
@@ -204,7 +204,7 @@ def test_an_event(bench):
     ecu = bench.open("ecu")
     with rest_of(bench) as rest:
         rest.run(until=0.2)
-        # The message has a cycle time, but its send type marks it as sent by an event.
+        # The message has a cycle time, but by its send type it is only sent on events.
         assert sent(ecu, EVENT) == []
         rest.send("GatewayEvent", {"Key": 7})
         rest.send("GatewayEvent")
@@ -222,7 +222,7 @@ def test_a_table_over_time(bench):
         rest.run(until=0.08)
         with pytest.raises(DatabaseError, match="^EngineData.EngineSpeed is a number, not 'fast'$"):
             rest["Engine"].play("EngineSpeed", [(0, 1), (1, "fast")])
-    # The values 1000, 2000, 0 and 16 rpm times 4, lowest byte first; a new table ends the one before.
+    # These are 1000, 2000, 0 and 16 rpm times 4, lowest byte first. A new table replaces the one before.
     speeds = [data[:4] for data in sent(ecu, DATA)]
     assert speeds == ["a00f", "a00f", "401f", "401f", "0000", "0000", "0000", "4000"]
 
@@ -246,7 +246,7 @@ def test_what_a_bench_refuses_is_counted():
         with bench.rest_bus(REST, without="ECU", interface="can0") as rest:
             rest.run(until=0.2)
             counts = rest.counts()
-            # After bus off no frame is accepted any more.
+            # After bus off, no further frame is accepted.
             assert counts.refused > 20 and counts.accepted + counts.refused == 20 + 2 + 10
             with pytest.raises(Refused, match="^bus off$"):
                 rest.send("GatewayEvent")
@@ -286,12 +286,12 @@ def test_a_log_as_input(bench, tmp_path):
         (tmp_path / "other.log").write_text("(100.001000) a 123#0000\n")
         with pytest.raises(ValueError, match="other.log: no frame of it is one of the rest bus$"):
             rest.replay(tmp_path / "other.log")
-    # The replay omits frames of the ECU, and frames without a sender.
+    # The replay leaves out the ECU's frames, and frames without a sender.
     assert [text for text, _ in frames] == ["100#0102030405060708", "300#000000", "100#0807060504030201"]
     assert frames[2][1] - frames[0][1] == pytest.approx(0.05, abs=30e-6)
 
 
-# Tests by a server in real time: the machine may be busy, so these tests check times only loosely.
+# The following tests use a server in real time. The machine may be busy, so they check times only roughly.
 
 
 @pytest.fixture
@@ -317,7 +317,7 @@ def test_a_server(car):
         car.expect(id=EVENT, data=b"\x09", within=WAIT)
         rest.stop()
         accepted = rest.counts().accepted
-    # The log has each accepted frame, from the interface of its sender.
+    # The log has every accepted frame, with its sender's interface.
     log = car.log()
     assert len(log) == accepted == rest.counts().accepted
     assert {(message.channel, message.arbitration_id) for message in log} == {
@@ -345,7 +345,7 @@ def test_its_periods_do_not_drift(car):
         car.wait_for(lambda: sum(rest.counts("EngineData")[::2]) >= 50, timeout=WAIT)
         rest.stop()
         log = [message.timestamp for message in car.log() if message.arbitration_id == DATA]
-    # Even on a busy machine each frame comes after its due time, and none replaces a later one.
+    # Even on a busy machine, each frame is sent after its due time, and in the right order.
     assert len(log) >= 2 and log[0] == first
     cycles = [round((moment - log[0]) / 0.01 - 0.25) for moment in log]
     assert all(later >= earlier for earlier, later in zip(cycles, cycles[1:]))
@@ -362,7 +362,7 @@ def test_a_fault_of_a_function_is_raised_at_the_end(car):
             car.wait_for(lambda: rest._fault, timeout=WAIT)
             with pytest.raises(KeyError, match="EngineData"):
                 rest["Engine"]["EngineSpeed"] = 1
-    # The first fault is raised.
+    # The first error of a function is raised.
     rest = live(car)
     rest.on_send("EngineData", fail)
     with pytest.raises(ZeroDivisionError):
@@ -410,7 +410,7 @@ def test_a_counter_counts_the_frames_that_were_sent(bench):
     with rest_of(bench) as rest:
         rest.on_send("EngineData", count)
         rest.run(until=0.03)
-        # The next 32 attempts make the engine bus off: its later frames are refused.
+        # The next 32 attempts fail, and the engine goes bus off. Its later frames are refused.
         bench.inject(Faults().next(32, sender="engine").destroyed())
         rest.run(until=0.1)
         assert engine.status().state == "off" and rest.counts("EngineData").refused > 3
@@ -421,7 +421,7 @@ def test_a_counter_counts_the_frames_that_were_sent(bench):
         assert counted[-1] == counts.accepted - 1 < len(counted) - 1
     counters = [int(data[14:], 16) for data in sent(ecu, DATA)]
     accepted = [number % 16 for number in range(counts.accepted)]
-    # Only the frames that bus off took from the queue are missing.
+    # Only the frames that were in the queue at bus off are missing.
     assert 1 <= len(accepted) - len(counters) <= lost and set(counters) < set(accepted)
     assert counters[-4:] == accepted[-4:]
 
@@ -439,7 +439,7 @@ def test_threads_set_values(car):
         for thread in threads:
             thread.join()
         assert rest["Engine"]["EngineSpeed"] == 199
-        # 199 / 0.25 is 031C.
+        # 199 / 0.25 is 031C in hexadecimal.
         car.expect(id=DATA, data=bytes.fromhex("1c03000000000000"), within=WAIT)
 
 
@@ -467,7 +467,7 @@ def test_the_command(car):
     finally:
         child.send_signal(signal.SIGINT)
         written, said = child.communicate(timeout=5 * WAIT)
-    # The number of frames depends on the machine.
+    # The number of frames depends on the speed of the machine.
     assert child.returncode == 0 and said.startswith("canbusd restbus: ") and said.endswith(" skipped\n")
     lines = written.splitlines()
     assert lines[0] == "engine     EngineData 100 [8] from Engine, every 10 ms, NoMsgSendType"
@@ -513,7 +513,7 @@ def test_what_the_files_say(car):
     assert (done.returncode, done.stdout) == (0, f"{load_database(REST)}\n")
 
 
-# Messages, and the times when they are due.
+# The following tests are about schedules: messages, and the times at which they are due.
 
 
 def test_a_schedule():
@@ -532,7 +532,7 @@ def test_phases_keep_messages_apart():
     found = phases(cycles)
     assert all(0 <= phase < cycle for phase, cycle in zip(found, cycles))
     moments = sorted(due for phase, cycle in zip(found, cycles) for due in range(phase, 2_000_000, cycle))
-    # There are 2,620 frames a second, 2.6 in a millisecond on average, and never more than 6 in a millisecond.
+    # 2,620 frames are due per second, 2.6 per millisecond on average. No millisecond has more than 6.
     assert (
         max(
             sum(first <= due < first + 1000 for due in moments[place : place + 20])
@@ -564,7 +564,7 @@ def test_what_somebody_else_has_frozen_stays():
         frozen = gc.get_freeze_count()
         punctuality.begin()
         punctuality.end()
-        # Objects that are no longer used are freed.
+        # Objects that are no longer used can be freed again.
         assert 0 < gc.get_freeze_count() <= frozen
     finally:
         gc.unfreeze()

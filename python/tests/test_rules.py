@@ -1,5 +1,5 @@
-"""Fault rules: their grammar, and the number of remaining rules. tests/bench/test_fault_rules.py of the repository
-tests their verdicts."""
+"""The grammar of fault rules, and the number of remaining rules. tests/bench/test_fault_rules.py in the repository tests the
+verdicts of rules."""
 
 import pytest
 

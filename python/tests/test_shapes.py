@@ -1,4 +1,4 @@
-"""Shapes of signals: their values by definition, on a bench at exact times, and in expectations of a server."""
+"""Shapes of signals: their values follow the definitions, on a bench at exact times and on a server by expectations."""
 
 import math
 
@@ -33,7 +33,8 @@ def dbc(tmp_path):
 
 
 def played(dbc, signal, *shape, until=0.1):
-    """Returns the values of a signal that a bench sends every 10 milliseconds, first 6 milliseconds after the start."""
+    """Returns the values of a signal on a bench. A frame is sent every 10 milliseconds, the first 6 milliseconds after the start.
+    """
     database = load_database(dbc)
     with Bench("engine,ecu", bitrate=500_000) as bench:
         ecu = bench.open("ecu")
@@ -103,7 +104,7 @@ def test_limits_of_the_database(dbc):
     for shape in (shapes.ramp(0, 160), shapes.sine(-41, 0), shapes.table([(0, 0), (1, 151)])):
         with pytest.raises(DatabaseError, match="Temperature is from -40 to 150, not "):
             played(dbc, "Temperature", shape)
-    # The file has no limits, so 16 bits with a sign apply.
+    # The file gives no limits for this signal, so the limits are those of a signed 16-bit number.
     assert played(dbc, "Free", shapes.square(period=0.04))[:3] == [-32768, -32768, 32767]
 
 
@@ -122,7 +123,7 @@ def test_what_comes_last_counts(dbc):
 def test_what_a_server_expects(dbc):
     with Server("engine,ecu", bitrate=500_000, database=dbc) as server:
         with server.rest_bus(dbc, interface="engine") as rest:
-            # On a busy machine frames are late; on a bench their times are exact.
+            # Frames of a server are late on a busy machine, but those of a bench have exact times.
             ramp = shapes.ramp(800, 3200, seconds=1)
             rest["Engine"].play("EngineSpeed", ramp)
             values = server.expect_signal("EngineSpeed", shape=ramp, late=0.5, within=WAIT)
@@ -148,7 +149,7 @@ def test_values_between(dbc):
             with pytest.raises(AssertionError, match="^signal EngineSpeed .*was 1000, not from 0 to 900: "):
                 server.expect_signal("EngineSpeed", between=(0, 900), within=0.2)
         with server.bus("engine") as engine:
-            # 16000.25 is above the limit of the database.
+            # The value 16000.25 is above the limit in the database.
             engine.send(server.database.encode("EngineData", {}).message())
             server.expect_from_now()
             frame = server.database.encode("EngineData", {}).message()

@@ -1,4 +1,5 @@
-"""Signals by name: the content of frames by a DBC file, worked out by hand, with each library and in each format."""
+"""Signals by name: the content of frames by a DBC file, with each library and in each file format. The expected bytes were worked
+out by hand."""
 
 import subprocess
 import sys
@@ -16,7 +17,7 @@ from test_report import data_of
 
 CAR = Path(__file__).with_name("car.dbc")
 LIBRARIES = {"cantools": "cantools is not installed (pip has it, Debian 12 does not)", "canmatrix": "no canmatrix"}
-# speed 1205 = 04B5 lowest byte first, temperature 20 + 40 = 3C, gear 3, torque -20 = FFEC highest byte first.
+# speed is 1205 = 04B5, lowest byte first. temperature is 20 + 40 = 3C, gear is 3, and torque is -20 = FFEC, highest byte first.
 DRIVES = "123#B5043C03FFEC0000"
 
 
@@ -29,7 +30,7 @@ def library(request):
 
 @pytest.fixture
 def car(library):
-    """The messages of the file."""
+    """The database of the file."""
     return load_database(CAR, library=library)
 
 
@@ -50,7 +51,7 @@ def test_what_a_frame_says(car):
     )
     assert [type(signal.value) for signal in found.signals] == [float, int, str, int]
     assert str(found) == "Engine: speed=120.5 km/h, temperature=20 degC, gear=Drive, torque=-10 Nm"
-    # The number has no name.
+    # This number of gear has no name.
     assert decoded(car, "123#0000000600000000").endswith("gear=6, torque=0 Nm")
 
 
@@ -80,7 +81,7 @@ def test_frames_that_the_file_does_not_know(car):
 def test_the_frame_of_signals(car):
     values = {"speed": "120.5", "temperature": 20, "gear": "Drive", "torque": -10.0}
     assert str(car.encode("Engine", values)) == DRIVES
-    # A missing signal has its initial value, 65 for temperature.
+    # A signal that is not given has its initial value: 65 for temperature.
     assert str(car.encode("Engine", {"gear": 1})) == "123#0000410100000000"
     assert str(car.encode("Pages", {"page": 1, "right": "10"})) == "200#0105"
     assert str(car.encode("Request", {"service": "0x22"})) == "18DAF110#220000"
@@ -107,7 +108,7 @@ def test_a_value_out_of_range(car):
         car.encode("Engine", {"temperature": 216})
 
 
-# The file is converted by canmatrix; in its ARXML messages have other names, and units and signs are lost.
+# canmatrix converts the file to this format. In ARXML messages get other names, and units and signs are lost.
 @pytest.mark.parametrize(
     "ending, line",
     [

@@ -1,4 +1,4 @@
-"""Steps of a test, in a JUnit file, on the terminal, and for report plugins of pytest."""
+"""Steps of a test: in a JUnit file, on the terminal, and in the reports of pytest plugins."""
 
 import re
 from xml.etree import ElementTree
@@ -37,7 +37,7 @@ TESTS = """
 
 
 def shown(lines):
-    """Returns lines without their seconds."""
+    """Returns these lines without durations."""
     return [re.sub(r"^ *[0-9.]+ s  ", "", line) for line in lines]
 
 
@@ -62,7 +62,7 @@ def test_reports(run, pytester):
     )
 
 
-#: A plugin that notes the data for pytest-html and allure-pytest, by the names in their documentation.
+#: A plugin that notes the calls that canbusd makes of pytest-html and allure-pytest. The names are those of their documentation.
 STAND_INS = """
 import contextlib, sys, types
 

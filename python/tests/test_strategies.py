@@ -1,4 +1,4 @@
-"""Strategies of Hypothesis: their frames can be sent, the program accepts their plans, and examples shrink to simple
+"""Strategies of Hypothesis: their frames can be sent, the program accepts their fault plans, and failing examples shrink to simple
 ones."""
 
 import pytest

@@ -1,6 +1,5 @@
-"""Time on the wire: the begin and the end of attempts, the bus load, and the columns of a page.
-
-The program computes the numbers of bits: tests/record/test_audit_wire.py of the repository checks these.
+"""Time on the wire: the begin and the end of attempts, the bus load, and the columns of a page. The program computes the numbers of
+bits, which tests/record/test_audit_wire.py in the repository checks.
 """
 
 import json
@@ -22,8 +21,8 @@ from canbusd.record import parse_record, timed
 from canbusd.server import Server
 
 SLOW, SWITCHING = Rates(500000), Rates(500000, 2000000)
-# Three messages, of 2.5, 3.5 and 3.5 frames, that have the wire to themselves: the worst response is that of the second
-# of the lowest priority, 3.5 frames (Davis, Burns, Bril, Lukkien, Real-Time Systems 2007). A frame has 108 bits with
+# Three messages have the bus to themselves, with periods of 2.5, 3.5 and 3.5 frames. The worst response is that of the second
+# instance of the lowest priority: 3.5 frames (Davis, Burns, Bril, Lukkien, Real-Time Systems 2007). A frame has 108 bits with
 # intermission, 216 microseconds.
 A, B, C = "001#55555555555505", "002#55555555555503", "003#5555555555557C"
 FULL = [(0, A, 210), (1, B, 426), (2, C, 642), (0, A, 858), (1, B, 1074), (0, A, 1290), (2, C, 1506)]
@@ -40,8 +39,8 @@ def test_rates_at_the_limits():
 
 
 def run_of(*tried):
-    """Returns the record of frames, each of which its interface sends before its attempt: (interface, frame,
-    microseconds)."""
+    """Returns the record of these frames, each as its interface, text and time in microseconds. An interface sends a frame just
+    before the attempt of that frame."""
     entries = [f"open {iface} 1 = socket {iface}" for iface in range(3)]
     numbers = [0, 0, 0]
     for iface, text, micros in tried:
@@ -58,7 +57,7 @@ def replay_of(*tried, rates=SLOW):
 
 
 def run_of_three_messages():
-    """Returns the same run with each frame sent when it is queued, so that other frames lose arbitration to it."""
+    """Returns the same run with frames that are sent as soon as they are due, so that they lose arbitration to other frames."""
     entries = [f"open {iface} 1 = socket {iface}" for iface in range(3)]
     numbers = {A: 0, B: 0, C: 0}
 
@@ -71,7 +70,7 @@ def run_of_three_messages():
     for attempt, (iface, text, micros) in enumerate(FULL):
         number = sum(text == other for _, other, _ in FULL[:attempt])
         entries.append(f"attempt 0.{micros:06} good = tried {iface} {number} {text} done {7 - (1 << iface):04X} 0000")
-        # A after 540 microseconds, when the third attempt has begun, B and C after 756, A after 1080.
+        # A is due again at 540 microseconds, after the third attempt has begun. B and C are due at 756, and A at 1080.
         send(*{2: [A], 3: [B, C], 4: [A]}.get(attempt, []))
     lines = ["canbus record 1", "bus 3 always 0000 10 100", *entries, f"end {len(entries)}", ""]
     return parse_record("\n".join(lines).encode()).replay
@@ -89,7 +88,7 @@ def test_a_wire_that_is_never_free():
 def test_attempts_that_begin_too_early():
     tried = [(iface, text, micros - 2 * (k == 3)) for k, (iface, text, micros) in enumerate(FULL)]
     run = replay_of(*tried)
-    # Rounding loses less than a microsecond.
+    # Rounded times hide less than a microsecond of the overlap.
     assert overlaps_of(run, slots_of(run)) == [
         "attempt 3 at 0.000856 begins 1.001 microseconds before attempt 2 is over"
     ]
@@ -101,7 +100,8 @@ def test_attempts_that_begin_too_early():
 
 
 def on_a_bench(maker, rates, frames):
-    """Returns the times of frames, some of which begin at once: fractions of a microsecond are rounded up and down."""
+    """Returns these frames with times as a bench gives them, with some frames back to back. Fractions of a microsecond are rounded
+    up or down."""
     free, tried = 0, []
     for number, frame in enumerate(frames):
         begin = max(free, 1000 * maker.choice([0, 0, free // 1000 + maker.randrange(200)]))
@@ -120,7 +120,7 @@ def test_rounding_does_not_add_up(seed, rates):
     tried = on_a_bench(maker, rates, frames)
     slots = slots_of(replay_of(*tried, rates=rates))
     assert [slot.overlap for slot in slots] == [0] * len(frames)
-    # An additional bit for each frame does add up.
+    # One additional bit in each frame makes frames overlap.
     slower = Rates(rates.bitrate - rates.bitrate // 200, rates.dbitrate)
     assert any(slot.overlap for slot in slots_of(replay_of(*tried, rates=slower)))
 
@@ -210,13 +210,13 @@ def test_the_columns_of_a_page():
     assert [column(wire[name]) for name in ("nominal", "fast", "frame", "busy")] == [
         [each] * 7 for each in (105, 0, 210000, 216000)
     ]
-    # The first frames of b and c lose to that of a; the second of c loses to those of b and a.
+    # The first frames of b and c lose to the first frame of a. The second frame of c loses to the second frames of b and a.
     assert column(wire["since"]) == [0, 1, 2, 0, 0, 0, 2]
 
 
 @pytest.fixture
 def audits(monkeypatch):
-    """Returns the requests to the program: whether a record may be cut off, and the bit rates for reading it."""
+    """The list of the requests to the program: whether a record may be cut off, and the bit rates."""
     asked = []
 
     def events(cut, rates):
@@ -248,7 +248,7 @@ def test_the_columns_of_a_run_with_bus_off():
     header, column = data_of(page(bus_off(), NAMES, "run.rec", rates=SWITCHING))
     wire = header["wire"]
     assert wire["dbitrate"] == 2000000
-    # Then come idle attempts and a restart: they take no time, and none begins before the end of the one before.
+    # Idle attempts and a restart follow. They take no time, and none begins before the end of the attempt before it.
     assert column(wire["busy"])[32:] == column(wire["frame"])[32:] == [0, 0]
     begins = column(wire["begin"])
     assert begins[:32] == [1000 * attempt for attempt in range(32)] and begins[32:] == [begins[32]] * 2

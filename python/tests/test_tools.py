@@ -1,4 +1,4 @@
-"""The interface as python-can finds it by its entry point, and python-can's own tools and helpers with it."""
+"""python-can finds the interface by its entry point, and its own tools and helpers work with the interface."""
 
 import asyncio
 import random
@@ -73,11 +73,11 @@ print({"can", "pytest"} & {*sys.modules})
 @pytest.mark.parametrize("ending, reader", [("asc", ASCReader), ("log", CanutilsLogReader)])
 def test_can_logger(installed, tmp_path, ending, reader):
     sent = [message(number % 0x800, number.to_bytes(2, "big")) for number in range(200)]
-    # python-can 4.1 omits the length of a remote frame in candump's log.
+    # In a candump log, python-can 4.1 omits the length of a remote frame.
     sent += [message(0x12345, b"\x01", extended=True), message(0x123, is_remote_frame=True, dlc=0)]
     file = tmp_path / f"run.{ending}"
     with Server("can0,can1") as server:
-        # The tool also hands its own words on to the writer of the file.
+        # The tool hands unknown options on to the writer of the file.
         logger = tool(
             "logger", "-f", file, "--error-frames=False", env={**installed, "CANBUSD_ADDRESS": server.address}
         )
@@ -90,7 +90,7 @@ def test_can_logger(installed, tmp_path, ending, reader):
         server.stop()
         _, errors = logger.communicate(timeout=WAIT)
     assert errors.strip().endswith("CanOperationError: the server closed the connection")
-    # The file has the frames that the first opened socket got, as in the record.
+    # The file has the same frames as the record has for the first opened socket.
     taken = [item for item in server.record().items if item.socket == 0 and item.fate == "taken"]
     with reader(str(file)) as log:
         logged = [shape(one) for one in log]
@@ -108,7 +108,7 @@ def test_can_player(installed, tmp_path):
         for number in range(1000)
     ]
     with Server("can0,can1", pace_ms=0, txqueue=1024, rxqueue=65536) as server, server.bus("can0") as can0:
-        # The burst fits into the transmit queue, since the player does not repeat refused frames.
+        # Each burst fits into the transmit queue, because the player does not repeat refused frames.
         for start in range(0, len(frames), 1000):
             part = frames[start : start + 1000]
             with CanutilsLogWriter(str(tmp_path / "run.log")) as log:
@@ -153,7 +153,7 @@ def test_a_notifier_in_a_thread(pair):
     can0, can1 = pair
     reader = can.BufferedReader()
     notifier = can.Notifier(can1, [reader], timeout=0.1)
-    # While the notifier waits for frames, this thread asks and sends on the same bus.
+    # While the notifier waits for frames, this thread sends on the same bus and asks for the status.
     for number in range(200):
         can0.send(message(number), timeout=WAIT)
         can1.send(message(0x7FF), timeout=WAIT)
@@ -200,7 +200,7 @@ def test_a_notifier_on_asyncio(pair):
         notifier = can.Notifier(can1, [reader], loop=asyncio.get_running_loop())
         got = []
         for first in range(0, count, 100):
-            # Frames come while answers are awaited on the same bus.
+            # Frames arrive while the same bus waits for answers.
             can0.send_many([message(first + number) for number in range(100)])
             assert can1.error_counters().state == "active"
             got += [(await asyncio.wait_for(reader.get_message(), WAIT)).arbitration_id for _ in range(100)]
@@ -222,7 +222,7 @@ def test_sending_periodically(pair):
         pass
     assert can1.recv(0.1) is None
     assert {bytes(one.data) for one in got} == {b"\x01"}
-    # Each frame was put on the bus after the one before.
+    # Each frame has a later timestamp than the one before.
     moments = [one.timestamp for one in got]
     assert moments == sorted(set(moments))
 
@@ -237,7 +237,7 @@ def test_a_periodic_task_survives_bus_off(caplog):
                 if "bus off" in caplog.text:
                     break
                 time.sleep(0.01)
-            # Some further frames are refused.
+            # In this time, further frames are refused.
             time.sleep(0.05)
             can0.restart()
             assert can1.recv(WAIT).arbitration_id == 0x123
@@ -268,7 +268,7 @@ def test_a_periodic_task_ends_with_its_bus(server, caplog):
         can0.shutdown()
         while can1.recv(0.1):
             pass
-        # A frame that was being sent at the stop is no fault.
+        # A frame that is still being sent at the stop causes no error.
         task.bus.send(message(0x123))
     assert not caplog.records
 

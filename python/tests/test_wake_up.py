@@ -1,4 +1,4 @@
-"""Nodes that sleep until a frame wakes them: on a server, on a bench, in virtual time."""
+"""Nodes sleep until a frame wakes them: on a server, on a bench, and in virtual time."""
 
 import subprocess
 import sys
@@ -17,7 +17,7 @@ from canbusd.virtual import is_virtual
 from common import DBC, WAIT, on_each_kind
 from test_downs import PROGRAM
 
-#: The identifiers of network management messages, in the usual range of AUTOSAR.
+#: The identifiers of network management messages, in AUTOSAR's usual range.
 NM = range(0x500, 0x540)
 
 
@@ -31,7 +31,7 @@ def run(request):
 
 @pytest.fixture
 def database(tmp_path):
-    """A database of two nodes, one of which sends every 10 ms."""
+    """A database with two nodes, one of which sends a message every 10 ms."""
     pytest.importorskip("canmatrix")
     path = tmp_path / "car.dbc"
     path.write_text(DBC)
@@ -45,10 +45,10 @@ def test_a_frame_wakes_a_node(run):
         tester.send(0x53F, b"\x01")
         assert run.expect_state("ecu", "active", within=WAIT) == ("active", 0, 0)
         tester.send(0x510, b"\x02")
-        # The node has not received the frame that woke it.
+        # The frame that wakes a node does not reach that node.
         received = [ecu.recv(timeout=WAIT), ecu.recv(timeout=WAIT)]
         assert [(one.is_error_frame, one.arbitration_id) for one in received] == [(True, 0x100), (False, 0x510)]
-        # The woken node takes part in traffic.
+        # After waking up, the node takes part in the traffic.
         ecu.send(0x501)
         run.expect_sequence(0x53F, 0x510, 0x501, within=WAIT)
 
@@ -82,7 +82,7 @@ def test_a_frame_that_nobody_sees_whole_wakes_nobody(run):
 
 def test_frames_from_before_wake_nobody(run):
     with run.bus("tester") as tester, run.bus("ecu") as ecu:
-        # Another node sleeps, so the bench already looks for wake-up frames.
+        # Another node is asleep already, so the bench is watching for wake-up frames.
         run.node("gateway").sleep(wake_on=0x540)
         for _ in range(20):
             ecu.send(0x511, timeout=WAIT)
@@ -97,7 +97,7 @@ def test_frames_from_before_wake_nobody(run):
 
 
 def test_all_sleep_and_wake_one_another(run):
-    """the nodes form a chain: each node that is awake wakes the next"""
+    """The nodes form a chain, and each node that wakes up wakes the next one."""
     with run.bus("tester") as tester, run.bus("gateway") as gateway:
         run.node("ecu").sleep(wake_on=0x512)
         run.node("gateway").sleep(wake_on=[0x510, range(0x700, 0x780)])
@@ -106,7 +106,7 @@ def test_all_sleep_and_wake_one_another(run):
         assert run.state("ecu") == "down"
         gateway.send(0x512)
         run.expect_state("ecu", "active", within=WAIT)
-        # No frame wakes a node that is awake; when they sleep again, frames wake them again.
+        # No frame wakes a node that is already awake. Nodes that go back to sleep can be woken again.
         for name, wakes in ("ecu", 0x512), ("gateway", 0x510):
             run.node(name).sleep(wake_on=wakes)
             tester.send(wakes)
@@ -121,7 +121,7 @@ def test_a_message_by_its_name_and_the_rest_bus(run, database):
         run.expect_from_now()
         run.expect_no_frame("EngineData", within=0.1)
         tester.send(run.frame("EcuData", {"Lamp": 1}))
-        # The node's messages begin in their first cycle.
+        # The node sends its first messages within one cycle of the wake-up.
         woken = run.expect("EcuData", within=WAIT).timestamp
         first, second = [run.expect("EngineData", within=WAIT).timestamp for _ in range(2)]
         if isinstance(run, Bench) or is_virtual():
@@ -131,7 +131,7 @@ def test_a_message_by_its_name_and_the_rest_bus(run, database):
 
 @pytest.mark.parametrize("bitrate", [500_000, None])
 def test_a_bench_whose_rest_bus_runs(database, bitrate):
-    """the wake-up comes in the middle of a run"""
+    """The wake-up comes in the middle of a run of the bench."""
     with Bench("ecu,tester", bitrate=bitrate) as bench, bench.bus("tester") as tester:
         with bench.rest_bus(database, interface="ecu", without=["ECU"]) as rest:
             bench.node("ecu").sleep(wake_on=0x200)
@@ -160,7 +160,7 @@ def test_a_bench_wakes_at_the_end_of_the_frame():
         assert (restarted.meaning, restarted.timestamp) == ("restarted", first.timestamp)
         assert (after.arbitration_id, after.timestamp) == (0x512, second.timestamp)
         assert (first.accepted, second.accepted, bench.now) == ((), ("ecu",), 1)
-        # This also holds for single attempts.
+        # Single attempts wake nodes too.
         bench.node("ecu").sleep(wake_on=NM)
         tester.send(0x513)
         assert bench.attempt(at=2).outcome == "done" and bench.state("ecu") == "active"
@@ -172,7 +172,7 @@ def test_a_program_goes_on():
         program = server.start([sys.executable, "-c", PROGRAM])
         server.expect(0x100, within=WAIT)
         pid = program.pid
-        # The node would answer the frame that wakes it, but does not see this frame.
+        # The program would answer the wake-up frame, but does not see it.
         server.node("ecu", program).sleep(wake_on=0x200)
         tester.send(0x200)
         server.expect_state("ecu", "active", within=WAIT)
@@ -200,7 +200,7 @@ def test_a_node_without_power_or_cable_does_not_wake(run):
             run.expect(0x512, within=WAIT)
             with pytest.raises(AssertionError, match="^ecu is down"):
                 run.expect_state("ecu", "active", within=0.1)
-        # The node sleeps as before.
+        # The node is still asleep.
         assert run.state("ecu") == "down"
         tester.send(0x513)
         run.expect_state("ecu", "active", within=WAIT)
@@ -257,7 +257,7 @@ def test_a_bench_goes_with_its_nodes():
         assert bench.node("ecu") is bench.node("ecu")
     folder = bench._folder
     assert folder.exists()
-    # There is no cycle of references.
+    # No reference cycle keeps the bench alive.
     del bench
     assert not folder.exists()
 
@@ -287,7 +287,7 @@ def test_what_wakes_nobody(wake_on, said):
     with Bench("ecu,tester") as bench:
         with pytest.raises(ValueError, match=said):
             bench.node("ecu").sleep(wake_on=wake_on)
-        # The node did not fall asleep.
+        # The node is not asleep.
         assert bench.state("ecu") == "active"
         with pytest.raises(TypeError, match="sleep has no argument wakes_on"):
             bench.node("ecu").sleep(wakes_on=0x500)
@@ -315,7 +315,7 @@ def test_filters_pass_what_wakes(span):
             frame = Frame(identifier, is_extended_id=is_extended)
             wakes = identifier in span and is_extended == (identifier > 0x7FF)
             assert wake_up.matches(frame) == wakes
-            # This is the rule of linux/can.h.
+            # The rule of linux/can.h decides whether a filter matches.
             word = identifier_word(frame)
             assert any(word & mask == of & mask for of, mask in pairs) == wakes
             assert not any((word | REMOTE) & mask == of & mask for of, mask in pairs)
@@ -338,7 +338,7 @@ print([step.kind for step in steps], round(woken * 1e6))
 """
 
 
-#: Another thread sends requests on the session that the test waits for.
+#: A test in which another thread uses the session on which the test waits.
 OTHER_THREAD = """
 import threading, time
 from canbusd import Server
@@ -359,7 +359,7 @@ def test_another_thread_brings_an_interface_up_in_virtual_time(tmp_path):
 
 
 def test_virtual_time(tmp_path):
-    """the node is awake at the end of the frame: 52 bits and at most 10 stuff bits, of 2 microseconds each"""
+    """The node is awake at the end of the frame. The frame has 52 bits and at most 10 stuff bits, of 2 microseconds each."""
     path = tmp_path / "test.py"
     path.write_text(textwrap.dedent(VIRTUAL))
     outputs = {

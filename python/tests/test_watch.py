@@ -1,4 +1,4 @@
-"""python3 -m canbusd watch: the data for pages, the page in a browser, and the end."""
+"""python3 -m canbusd watch: the data for the page, the page in a browser, and the end of the command."""
 
 import contextlib
 import http.client
@@ -61,7 +61,7 @@ def test_frames_and_bus_errors_push_out_no_bus_off():
 
 
 def test_the_sender_is_the_interface_that_has_sent_the_frame():
-    """identifiers are the same, and one interface of the bus is not watched"""
+    """The sender of each frame is right, even if all identifiers are equal and one interface of the bus is not watched."""
     with Server("can0,can1,can2") as server:
         watcher = Watcher(["can0", "can1"], server.address)
         assert watcher.wires == [None, None]
@@ -76,7 +76,7 @@ def test_the_sender_is_the_interface_that_has_sent_the_frame():
 
 
 def test_how_long_frames_took_on_buses_with_bit_rates_of_their_own():
-    """on one bus the frame takes ten times as long, and on another the time is not known"""
+    """A frame takes ten times as long on the slower bus. Without a bit rate, the time is not known."""
     names, rates = ["can0", "body0", "lin0"], {"can0": 50_000, "body0": 5_000}
     with Server(*names, bitrate=rates) as server:
         watcher = Watcher(names, server.address)
@@ -97,7 +97,7 @@ def test_the_load_and_how_long_frames_took():
     with Server("can0,can1", bitrate=5_000, dbitrate=20_000, txqueue=1_000) as server, server.bus("can0") as bus:
         watcher = Watcher(["can0", "can1"], server.address)
         assert [wire.rates for wire in watcher.wires] == [rates, rates]
-        # 26 seconds of frames.
+        # These frames take 26 seconds.
         bus.send_many([can.Message(arbitration_id=1, data=bytes(8), is_extended_id=False)] * 1_000)
         server.wait_for(lambda: bus.load().permille >= 990, timeout=WAIT)
         tick, rows = watcher.tick(0.1)
@@ -108,12 +108,12 @@ def test_the_load_and_how_long_frames_took():
 
 
 def test_how_long_frames_of_each_kind_take():
-    """the program, asked once for each frame, gives the times"""
+    """The program computes the times, and is asked once for each frame."""
     texts = ["000#", "7FF#FFFFFFFFFFFFFFFF", "1FFFFFFF#", "123#R", "048C0000#R8", "123##0", f"1ABCDEF0##3{64 * '00'}"]
     times = FrameTimes(Rates(5_000, 20_000))
     wanted = [nanos_of(text, 5_000, 20_000)[1] for text in texts]
     assert times.of(texts) == wanted
-    # The times are cached: no program is started.
+    # The times are cached, so no program is started.
     with pytest.MonkeyPatch.context() as patch:
         patch.setenv("CANBUSD", "/nonexistent/canbusd")
         assert times.of([*texts[::-1], texts[0]]) == [*wanted[::-1], wanted[0]]
@@ -135,7 +135,7 @@ def test_no_more_times_are_kept_than_there_is_room_for(monkeypatch):
 
 
 def test_without_a_program_there_is_no_load(monkeypatch, capsys):
-    """the server may be elsewhere; a note reports the missing program"""
+    """The server may be on another machine, so the program may be missing. A note says so, and there is no bus load."""
     monkeypatch.setenv("CANBUSD", "/nonexistent/canbusd")
     assert times_of(Rates(5_000)) is None
     assert capsys.readouterr().err == (
@@ -174,12 +174,12 @@ def test_a_page_gets_the_end():
         ("20000088#0000810A00000000", 1),
         ("20000088#0000821A00000000", 0),
         ("200000A0#0000801900000000", 2),
-        # A receiver's error, a change of state, bus off, and a data frame.
+        # These are a receiver's error, a change of state, bus off, and a data frame.
         ("20000088#0000040000000000", None),
         ("20000204#0008000000006000", None),
         ("20000040#0000000000000000", None),
         ("123#0000810A00000000", None),
-        # These frames are cut short.
+        # These frames are too short.
         ("20000088#00", None),
         ("20000088#000081", 1),
     ],
@@ -198,13 +198,13 @@ ENVIRONMENT = {
 
 
 def called(server, *words):
-    """Returns the result of the command with these words, after its end."""
+    """Runs the command with these words to its end, and returns the result."""
     words = [*WATCH, "-a", server.address, *words, "can0"]
     return subprocess.run(words, env=ENVIRONMENT, capture_output=True, text=True, timeout=WAIT, check=False)
 
 
 class Watch:
-    """The command as a process."""
+    """A running process of the command."""
 
     def __init__(self, server, *names, options=()):
         self.child = subprocess.Popen(
@@ -217,7 +217,7 @@ class Watch:
         self.port, self.path = int(self.url.split(":")[2].split("/")[0]), "/" + self.url.split("/", 3)[3]
 
     def get(self, path=None, host=None, method="GET"):
-        """Returns the answer to a request for the page or another path."""
+        """Returns the answer to a request for the page, or for another path."""
         connection = http.client.HTTPConnection("127.0.0.1", self.port, timeout=WAIT)
         connection.request(method, path or self.path, headers={"Host": host or f"127.0.0.1:{self.port}"})
         return connection.getresponse()
@@ -235,7 +235,7 @@ def message(identifier):
 
 
 def test_news_have_the_frames_and_counts_of_both_interfaces():
-    # The first frame is destroyed once: its sender's transmit count is 8, and then 7.
+    # The first frame is destroyed once, so the transmit count of its sender is 8, and then 7.
     server = Server("can0,can1", report=True, faults=Faults().destroyed(0))
     with server, Watch(server, "can0", "can1") as watch:
         answer = watch.get(f"{watch.path}news")
@@ -264,7 +264,7 @@ def test_news_have_the_frames_and_counts_of_both_interfaces():
 
 @contextlib.contextmanager
 def connections(port, count):
-    """Opens connections that send no request."""
+    """Opens connections on which no request is sent."""
     with contextlib.ExitStack() as all_of_them:
         made = []
         for _ in range(count):
@@ -274,14 +274,14 @@ def connections(port, count):
 
 def test_connections_that_ask_nothing_are_closed():
     with Server("can0") as server, Watch(server, "can0") as watch, connections(watch.port, 30) as silent:
-        # The other connections are served meanwhile.
+        # Other connections are served in the meantime.
         assert watch.get().status == 200
         for one in silent:
             assert one.recv(1) == b""
 
 
 def ticks(child):
-    """Returns the processor time of a process, in hundredths of a second."""
+    """Returns the processor time of a process in hundredths of a second."""
     fields = Path(f"/proc/{child.pid}/stat").read_text(encoding="ascii").rsplit(") ", 1)[1].split()
     return int(fields[11]) + int(fields[12])
 
@@ -337,11 +337,11 @@ def test_the_page(tmp_path):
                 browser.settle()
             shown = browser.run("[...at('ifaces').rows[1].cells].map(one => one.textContent)")
             assert shown == ["can0", "bus\u00a0off", "256", "0", "1", "0", "0", "1", "0"]
-            # Only can1 sends now.
+            # From here on only can1 sends.
             browser.until("byIdentifier.get('124').sender === 1")
             browser.run("showTab('tab-events')")
             assert "bus off" in browser.run("at('events').innerText")
-            # The choice stays, and no row moves while the page is paused; frames that come are kept.
+            # While the page is paused, the choice stays and no row moves. New frames are kept for later.
             browser.run("at('offs').querySelector('button').click()")
             browser.settle()
             assert browser.run("at('moment').innerText").startswith("Chosen: ")
@@ -353,7 +353,7 @@ def test_the_page(tmp_path):
             assert browser.run("ticks.length") > before
             assert browser.run("chosen.kind") == "bus off"
             assert browser.run("at('events').querySelector('[aria-selected]').innerText.includes('bus off')")
-            # Kinds of rows can be hidden and shown.
+            # The buttons hide and show kinds of rows.
             browser.run("[...at('kinds').children].find(one => one.textContent.startsWith('error warning')).click()")
             browser.settle()
             assert browser.run("[...new Set(lists[tab].list.map(one => one.kind))].join()") == "error warning"
@@ -368,7 +368,7 @@ def test_the_page(tmp_path):
 
 @pytest.mark.skipif(PROGRAM is None, reason="no chromium on the PATH")
 def test_signals_of_the_page(tmp_path):
-    """the last values are in one table, and chosen signals have lanes: a band of names, a curve"""
+    """A table has the latest values. Chosen signals also have lanes, with a band of names or a curve."""
     pytest.importorskip("canmatrix", reason="not installed: canmatrix")
     file = Path(__file__).with_name("car.dbc")
     car = load_database(file, library="canmatrix")
@@ -406,7 +406,7 @@ def test_signals_of_the_page(tmp_path):
 
 @pytest.mark.skipif(PROGRAM is None, reason="no chromium on the PATH")
 def test_the_page_of_a_server_with_a_bit_rate(tmp_path):
-    """the page also has the load of an idle bus, and each identifier's share of the time"""
+    """The page shows the load even of an idle bus, and the share of the time that each identifier takes."""
     with Server("can0,can1", bitrate=5_000) as server, Watch(server, "can0", "can1") as watch:
         browser = Browser(tmp_path)
         try:
@@ -419,7 +419,7 @@ def test_the_page_of_a_server_with_a_bit_rate(tmp_path):
             with server.bus("can0", bitrate=5_000) as bus:
                 bus.send(message(0x123))
                 browser.until("byIdentifier.has('123')")
-            # The page knows that the nodes are on one bus, whose load is shown once.
+            # The page shows the load of a bus once, in the row of the first of its nodes.
             browser.until("at('ifaces').rows[2].cells[9].textContent === ''")
             browser.run("showTab('tab-identifiers')")
             browser.settle()
@@ -430,7 +430,8 @@ def test_the_page_of_a_server_with_a_bit_rate(tmp_path):
 
 
 def test_no_more_frames_a_second_than_the_bus_carries():
-    """a frame without data has at least 47 bits with intermission; late requests for the counts change nothing"""
+    """A frame without data has at least 47 bits with intermission. The frame rate stays below that limit, even if the counts are
+    requested late."""
     with Server("can0,can1", bitrate=5_000, txqueue=1_000) as server, server.bus("can0") as bus:
         watcher = Watcher(["can0", "can1"], server.address)
         bus.window = 1_000
@@ -440,19 +441,19 @@ def test_no_more_frames_a_second_than_the_bus_carries():
             tick, _ = watcher.tick(seconds)
             found.append((tick["ifaces"][0][4] - before, tick["span"]))
             before = tick["ifaces"][0][4]
-            # This simulates a busy machine.
+            # The pause simulates a busy machine.
             time.sleep(0.1)
         for one in watcher.buses:
             one.shutdown()
     assert found[0][1] == 0
-    # At the edges of the time there is room for one more frame.
+    # One more frame fits, because the first or the last frame may be only partly in this span.
     assert all(0 < count <= 1 + span * 5_000 / 47 for count, span in found[1:])
 
 
 @pytest.mark.skipif(PROGRAM is None, reason="no chromium on the PATH")
 def test_what_is_short_and_what_is_late(tmp_path):
-    """a bus off that is over before the next request for the counts leaves a mark; a late request makes no higher
-    rate"""
+    """A short bus off leaves a mark, even if it is over before the next request for the counts. A late request does not show a
+    higher rate."""
     faults, options = Faults().next(32, sender="can0").destroyed(), ("--interval", "1")
     with Server("can0,can1", faults=faults, auto_restart=1) as server, Watch(
         server, "can0", "can1", options=options
@@ -468,7 +469,7 @@ def test_what_is_short_and_what_is_late(tmp_path):
                 browser.until("offs.length === 1 && ticks[ticks.length - 1].time > offs[0].moment + 2")
             browser.run("pause()")
             browser.settle()
-            # The drawing in the band of states of can0, at its bus off and next to it.
+            # Draws of the band of states of can0, at its bus off and next to it.
             drawn = """(() => {
               const x = Math.floor(placeOf(plotted(), offs[0].moment - ticks[0].time)), canvas = at('lanes');
               const copy = new OffscreenCanvas(canvas.width, canvas.height).getContext('2d', { willReadFrequently: true });
@@ -485,7 +486,7 @@ def test_what_is_short_and_what_is_late(tmp_path):
             )
             assert browser.run("busiest") == 100
             assert browser.run("at('facts').textContent").split(": ")[1].startswith("200 frames a second")
-            # The interface that sent a frame may be known after an interface that received it.
+            # The page may learn the sender of a frame after a receiver of that frame.
             browser.run("takeFrame(102, '7F0#', 2, '', -1, 0, null); takeFrame(102, '7F0#', 1, '', 0, 0, null)")
             senders = "[frames[frames.length - 1], byIdentifier.get('7F0')].map(one => one.sender)"
             assert browser.run(senders) == [0, 0]

@@ -1,5 +1,4 @@
-"""The actions on the page of canbusd watch: their requests, the users and sites that may send them, and the page in a
-browser."""
+"""The actions on the page of canbusd watch: their requests, who may send them, and the page in a browser."""
 
 import contextlib
 import http.client
@@ -26,7 +25,7 @@ from canbusd.signals import load_database
 
 DBC = Path(__file__).with_name("car.dbc")
 ACTS = ("send", "cycle", "stop", "rule", "end", "down", "up", "restart")
-# A test waits for this many seconds to see that no message comes.
+# After this many seconds without a message, a test assumes that none comes.
 SILENCE = 0.3
 
 
@@ -44,7 +43,7 @@ def watched(server):
 
 @pytest.fixture
 def receiver(server):
-    """A bus that has read all frames sent before."""
+    """A bus that has no unread frames from earlier tests."""
     with server.bus("can1", fd=True) as bus:
         yield bus
 
@@ -68,7 +67,7 @@ def posted(watch, act, body, headers=None):
 
 
 def ask(watch, act, node="can0", **asked):
-    """Returns the answer to the page that makes this request."""
+    """Sends a request of the page, and returns the answer."""
     answer = posted(watch, act, json.dumps({"node": node, **asked}).encode())
     assert (answer.status, answer.getheader("Content-Type")) == (200, "application/json")
     return json.loads(answer.read())
@@ -76,7 +75,7 @@ def ask(watch, act, node="can0", **asked):
 
 @contextlib.contextmanager
 def opened(watch):
-    """Opens a page; returns a function that returns the page's next news."""
+    """Opens the page. The context is a function that returns the next news for the page."""
     with watch.get(f"{watch.path}news") as answer:
 
         def news():
@@ -90,7 +89,7 @@ def opened(watch):
 
 
 def is_silent(bus):
-    """Returns whether no message comes any more, after those on their way."""
+    """Returns whether messages stop coming, after those on their way are read."""
     deadline = time.monotonic() + WAIT
     while time.monotonic() < deadline:
         if bus.recv(SILENCE) is None:
@@ -113,7 +112,7 @@ def is_silent(bus):
     ],
 )
 def test_a_frame_is_sent(server, watched, receiver, text, python):
-    """a frame is sent once, and the displayed Python line sends the same frame"""
+    """A frame is sent once. The Python line on the page would send the same frame."""
     has_fd = ", fd=True" if "##" in text else ""
     line = ask(watched, "send", frame=text)["python"]
     assert line == f'bus.send({python})  # bus = server.bus("can0"{has_fd})'
@@ -177,8 +176,8 @@ def test_what_is_refused_is_said(watched, receiver, act, asked, fault):
 
 
 def test_refusals_of_the_bus():
-    """a full queue, bus off, and rules without room are refused"""
-    # No node acknowledges the first frame, which is sent again and again.
+    """A send is refused if the queue is full or the interface is bus off, and a rule is refused if there are too many rules."""
+    # No node acknowledges the first frame, so it stays in the queue and is sent again and again.
     with Server("can0", ack="peers", txqueue=1) as lone, Watch(lone, "can0") as watch:
         assert "python" in ask(watch, "send", frame="123#")
         fault = ask(watch, "send", frame="123#")["fault"]
@@ -214,7 +213,7 @@ def test_nodes_go_down_and_up(server, watched):
 
 
 class Interface:
-    """A bus that notes the calls of its methods."""
+    """A stand-in for a bus, which notes the calls of its methods."""
 
     channel = "can0"
 
@@ -226,7 +225,7 @@ class Interface:
 
 
 def test_what_each_act_asks_the_interface_for(monkeypatch):
-    """the interface is that of a server that has all of these messages"""
+    """Each action calls the right method of the bus, as on a server that knows all of these messages."""
     bus = Interface()
     monkeypatch.setattr("canbusd._page.acts.CanbusdBus", lambda *_, **__: bus)
     acts = Acts(["can0"], None)
@@ -243,7 +242,7 @@ def test_what_each_act_asks_the_interface_for(monkeypatch):
 
 
 def test_cyclic_frames(watched, receiver):
-    """cyclic frames are sent until they are stopped; the page gets the list of them"""
+    """Cyclic frames are sent until they are stopped. The page gets a list of them."""
     with opened(watched) as news:
         page = news()["page"]
         line = ask(watched, "cycle", page=page, frame="123#11", period=0.02)["python"]
@@ -251,7 +250,7 @@ def test_cyclic_frames(watched, receiver):
         assert line == f'task = bus.send_periodic({python}, 0.02)  # bus = server.bus("can0")'
         got = [receiver.recv(WAIT) for _ in range(6)]
         assert {str(frame_like(one)) for one in got} == {"123#11"}
-        # The page does not make up for a late frame.
+        # After a late frame, the next one is not sent early.
         assert got[-1].timestamp - got[0].timestamp > 3 * 0.02
         while not (cycles := news()["cycles"]):
             pass
@@ -265,7 +264,7 @@ def test_cyclic_frames(watched, receiver):
 
 
 def test_cyclic_frames_end_with_their_page(watched, receiver):
-    """the frames of another page continue"""
+    """When a page is closed, its cyclic frames stop, and those of other pages continue."""
     with opened(watched) as other:
         with opened(watched) as news:
             for one, frame in ((news, "100#"), (other, "200#")):
@@ -282,12 +281,12 @@ def test_cyclic_frames_end_with_their_page(watched, receiver):
 
 
 def is_without(bus, identifier):
-    """Returns whether frames come for a while, but none with this identifier."""
+    """Returns whether the next frames all have other identifiers."""
     return all(bus.recv(WAIT).arbitration_id != identifier for _ in range(20))
 
 
 def test_a_closed_page_is_known_without_news(server, receiver):
-    """this holds even if the counts are requested once an hour"""
+    """A closed page is noticed even if the counts are requested only once an hour."""
     with Watch(server, "can0", options=["--interval", "3600"]) as watch:
         with opened(watch) as news:
             assert "python" in ask(watch, "cycle", page=news()["page"], frame="300#", period=0.01)
@@ -300,7 +299,8 @@ def test_a_closed_page_is_known_without_news(server, receiver):
 
 
 def test_refusals_of_cyclic_frames():
-    """refusals are shown, and sending continues when the interface is back; the number of cyclic frames is limited"""
+    """The page shows why a cyclic frame is refused. Sending goes on when the interface is back. The number of cyclic frames is
+    limited."""
     with Server("can0,can1") as server, Watch(server, "can0") as watch, opened(watch) as news:
         page = news()["page"]
         server.inject("next 32 from can0 global bit", "can0")
@@ -317,7 +317,7 @@ def test_refusals_of_cyclic_frames():
 
 
 def test_nothing_is_done_for_others(watched, receiver):
-    """others lack the token in the header, have another origin, or send another kind of request"""
+    """A request is refused if its token header is missing, if it has another origin, or if it is of another kind."""
     own, frame = headers_of(watched), json.dumps({"node": "can0", "frame": "123#"}).encode()
     token, here = own[TOKEN], own["Origin"]
     without = {name: {key: value for key, value in own.items() if key != name} for name in (TOKEN, "Origin")}
@@ -368,7 +368,7 @@ def test_a_body_that_is_none(watched, receiver):
 
 
 def test_a_page_that_only_reads(server, receiver):
-    """the page has no controls, and the server accepts no requests"""
+    """With --read-only the page has no controls, and the server refuses all actions."""
     with Watch(server, "can0", options=["--read-only"]) as watch:
         frame = json.dumps({"node": "can0", "frame": "123#"}).encode()
         for act in ACTS:
@@ -380,7 +380,7 @@ def test_a_page_that_only_reads(server, receiver):
     assert is_silent(receiver)
 
 
-# Sends a request for a frame to a port, by a path with the token, and prints the status.
+# A program that asks a port to send a frame, by a path with the token, and prints the status.
 SEND = """
 import http.client, sys
 port, path = sys.argv[1:]
@@ -402,7 +402,7 @@ def test_another_user_of_a_server_at_a_unix_path(tmp_path):
 
 
 def said(browser, form):
-    """Returns the answer that a form shows for its last action; waits for the answer."""
+    """Waits for the answer that a form shows for its last action, and returns it."""
     browser.until(f"at('{form}').querySelector('.said').textContent !== ''")
     text = browser.run(f"at('{form}').querySelector('.said').textContent")
     browser.run(f"at('{form}').querySelector('.said').replaceChildren()")
@@ -410,7 +410,7 @@ def said(browser, form):
 
 
 def press(browser, form, name):
-    """Presses a button of a form, and returns the form's answer."""
+    """Presses a button of a form, and returns the answer that the form shows."""
     browser.run(f"at('{form}').querySelector('.said').replaceChildren()")
     browser.run(f"at('{form}').elements.{name}.click()")
     return said(browser, form)
@@ -419,8 +419,8 @@ def press(browser, form, name):
 @pytest.mark.browser
 @needs_browser
 def test_the_page_sends(tmp_path):
-    """the page sends by keyboard, with signals, and cyclically; it adds rules; its cyclic frames end after it is
-    closed"""
+    """The page can be used by keyboard, sends signals and cyclic frames, and adds rules. After the page is closed, its cyclic
+    frames stop."""
     pytest.importorskip("canmatrix", reason="not installed: canmatrix")
     with Server("can0,can1") as server, Watch(server, "can0", "can1", options=["--dbc", str(DBC)]) as watch:
         browser = Browser(tmp_path)
@@ -430,7 +430,7 @@ def test_the_page_sends(tmp_path):
                 browser.open(watch.url)
                 browser.until("page !== ''")
                 assert browser.run("at('acts').open") is False
-                # This part uses only the keyboard.
+                # In this part, only the keyboard is used.
                 browser.key("s")
                 for key in "123":
                     browser.key(key)
@@ -441,7 +441,7 @@ def test_the_page_sends(tmp_path):
                 )
                 assert str(frame_like(receiver.recv(WAIT))) == "123#"
                 browser.until("frames.some(one => one.text === '123#' && one.sender === 0)")
-                # Each kind of frame, and a text that is no frame.
+                # The loop sends each kind of frame, and tries a text that is no frame.
                 for kind, data, text in (
                     ("#", "11 22 ab", "123#1122AB"),
                     ("##0", "0A", "123##00A"),
@@ -457,14 +457,14 @@ def test_the_page_sends(tmp_path):
                 assert press(browser, "act-frame", "send").startswith(
                     "Refused: 12#R4: an identifier has 11 bits in 3 digits"
                 )
-                # The line is copied.
+                # The button copies the Python line.
                 press_copy = "navigator.clipboard.writeText = async text => { window.copied = text; }; at('act-node').querySelector('.said button').click()"
                 browser.run("at('act-node').elements.up.click()")
                 browser.until("!!at('act-node').querySelector('.said button')")
                 browser.run(press_copy)
                 browser.until("at('act-node').querySelector('.said button').textContent === 'copied'")
                 assert browser.run("window.copied") == 'server.up("can0")' and browser.run("isSecureContext")
-                # Signals are sent cyclically, and all other signals have their start values.
+                # Signals are sent cyclically. Signals without a given value have their start values.
                 browser.run("at('act-message').value = 'Engine'; at('act-message').onchange()")
                 assert browser.run("[...at('by-signals').querySelectorAll('input')].map(one => [one.name, one.placeholder].join())") == [
                     "speed,0", "temperature,25", "gear,Park", "torque,0"
@@ -481,7 +481,7 @@ def test_the_page_sends(tmp_path):
                 assert said(browser, "act-frame") == "task.stop() copy"
                 assert is_silent(receiver)
                 browser.until("document.activeElement.name === 'cycle' && !at('cycles').children.length")
-                # A ready rule, and what the bus does then.
+                # A ready-made rule is added, and the bus obeys it.
                 browser.run("at('act-ready').value = 4; at('act-ready').onchange()")
                 assert (
                     press(browser, "act-rule", "rule") == 'server.inject("next 32 from can0 global bit", "can0") copy'
@@ -496,7 +496,7 @@ def test_the_page_sends(tmp_path):
                 assert press(browser, "act-rule", "rule").startswith("Refused: rule 'next 1 lost': its verdict is ")
                 browser.run("at('act-name').value = 'can1'; at('act-name').onchange()")
                 assert press(browser, "act-node", "up") == 'server.up("can1") copy'
-                # Narrow, and dark; nothing has to be scrolled aside.
+                # Nothing is too wide at either width, in light or dark colours.
                 for width in (1600, 500):
                     for is_dark in (False, True):
                         browser.size(width, dark=is_dark)
@@ -504,7 +504,7 @@ def test_the_page_sends(tmp_path):
                         wide = "[...at('acts').querySelectorAll('*')].filter(one => one.scrollWidth > one.clientWidth + 1 && getComputedStyle(one).display !== 'inline' && !one.matches('input, select, option')).length"
                         assert browser.run(wide) == 0
                 assert browser.faults == []
-                # The page is left.
+                # The page is closed while a frame is sent cyclically.
                 browser.run("at('act-name').value = 'can0'; at('act-name').onchange()")
                 press(browser, "act-frame", "cycle")
                 assert receiver.recv(WAIT)
@@ -532,7 +532,7 @@ def test_a_page_without_controls(server, tmp_path):
 @pytest.mark.browser
 @needs_browser
 def test_another_site_sends_nothing(watched, receiver, tmp_path):
-    """even one that knows the URL: a browser asks first, or sends no header"""
+    """Even a site that knows the URL can't send frames, because the browser asks for permission first, or leaves out a header."""
     body = json.dumps({"node": "can0", "frame": "123#"})
     with site() as port:
         browser = Browser(tmp_path, "--host-resolver-rules=MAP site.example 127.0.0.1")

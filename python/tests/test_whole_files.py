@@ -1,4 +1,4 @@
-"""No user's file is lost: each command writes its file completely, in place of the old file, or not at all."""
+"""No user's file gets lost: a command replaces a file by a complete new one, or leaves the file as it was."""
 
 import errno
 import os
@@ -20,7 +20,7 @@ from canbusd._whole_file import replaced
 HERE = Path(__file__).parent
 WAIT = 60
 LOG = "".join(f"({1795910922 + number}.000000) ecu 123#{number:04X}\n" for number in range(2000))
-# Runs a command, and prints each file that the command opens for writing, and the mode.
+# A program that runs a command, and prints each file that the command opens for writing, with the mode.
 TRACED = """
 import os, sys
 
@@ -50,7 +50,7 @@ finally:
     for event, *paths in moved:
         print(event, *paths, file=sys.stderr)
 """
-#: The words with which each command is tested, and the file that it writes besides standard output, if there is one.
+#: The words for each command, and the file that it writes besides standard output, or None.
 TRIED = {
     "dump": (["dump", "-T", "50", "can0"], None),
     "send": (["send", "can0", "123#11"], None),
@@ -69,12 +69,12 @@ TRIED = {
 
 
 def convert(folder, *words, **more):
-    """Runs the command `convert` in this folder; returns its status and its output."""
+    """Runs `convert` in this folder, and returns its status and its output."""
     return call("convert", *words, cwd=folder, **more)
 
 
 def contents(folder):
-    """Returns the names in a folder, and the contents of the files."""
+    """Returns the contents of the files in a folder, by name."""
     return {path.name: path.read_bytes() for path in folder.iterdir()}
 
 
@@ -91,8 +91,8 @@ def folder(tmp_path):
 
 
 def test_all_commands_are_tried():
-    """the program's commands write their files themselves, a sweep writes into its folder canbusd-sweep, and extcap
-    into Wireshark's folder"""
+    """All commands of the package are tested here, apart from three kinds: the program writes its own files, a sweep writes into
+    canbusd-sweep, and extcap writes into Wireshark's folder."""
     assert {*TRIED, "sweep", "extcap"} | {*PROGRAM} == {*COMMANDS, "candump2bench"}
 
 
@@ -115,14 +115,14 @@ def test_nothing_but_its_own_file_is_written(folder, name):
     after = contents(folder)
     assert {path: after.get(path) for path in before} == before
     assert {*after} - {*before} == ({target} if target else set())
-    # The only rename gives the new file its name.
+    # The only rename turns the draft into the file.
     moved = [line.split() for line in said.splitlines() if line.startswith("os.rename ")]
     assert [(line[1].startswith(".canbusd-"), line[2]) for line in moved] == ([(True, target)] if target else [])
 
 
 @pytest.fixture(params=["without a name", "with a name", "without /proc"])
 def drafts(request, monkeypatch):
-    """The ways to write a new file: for most file systems, for the others, and without the means for a later name."""
+    """Three ways to write a draft: without a name, as on most file systems, with a name, and without /proc."""
     if request.param == "without /proc":
         monkeypatch.setattr("canbusd._whole_file.OWN_FILES", "/nonexistent")
     if request.param == "with a name":
@@ -207,7 +207,7 @@ def test_a_link_that_somebody_makes_meanwhile_is_not_followed(tmp_path, drafts):
 
 
 def test_a_folder_that_is_moved_meanwhile(tmp_path, drafts):
-    """a link in its place leads nowhere"""
+    """If the folder is moved and a link takes its place, the file is written into the moved folder, not through the link."""
     for name in ("folder", "other"):
         (tmp_path / name).mkdir()
     (tmp_path / "other" / "file").write_bytes(b"other")
@@ -239,7 +239,7 @@ def test_a_fifo_gets_the_content_and_stays(tmp_path):
         reader.join(WAIT)
         assert stat.S_ISFIFO(path.lstat().st_mode)
         path.unlink()
-        # The content is the same as in a file, except for the date of an ASC file.
+        # The pipe gets the same content as a file, apart from the date in an ASC file.
         assert convert(tmp_path, "from.log", name)[0] == 0
         assert read[0].splitlines()[1:] == path.read_bytes().splitlines()[1:]
         path.unlink()
@@ -256,7 +256,7 @@ def test_devices(tmp_path):
 
 
 def most_bytes():
-    """Limits files to 1,000 bytes, as on a full disk."""
+    """Limits the size of files to 1,000 bytes, which has the effect of a full disk."""
     resource.setrlimit(resource.RLIMIT_FSIZE, (1000, 1000))
 
 
@@ -281,7 +281,7 @@ def test_one_that_is_killed_leaves_the_old_log(tmp_path, number):
     with open(tmp_path / "from.log", "w", encoding="ascii") as source:
         source.write(LOG)
         source.flush()
-        # The command's draft is open: it only reads then.
+        # The command has opened its draft by now, and waits for input.
         child.send_signal(number)
         assert child.wait(WAIT) == -number
     child.communicate()
@@ -303,14 +303,14 @@ def test_one_log_may_be_both(folder):
 
 
 def as_nobody():
-    """Root may write everywhere, so the test runs as nobody."""
+    """Gives up root, because root may write everywhere."""
     if os.geteuid() == 0:
         os.setresgid(65534, 65534, 65534)
         os.setresuid(65534, 65534, 65534)
 
 
 def test_what_may_not_be_written_is_refused():
-    """a file is refused, as a shell refuses it, and so is a folder"""
+    """A file without permission to write is refused, as by a shell, and so is a folder."""
     code = """
 import os, sys, tempfile
 from canbusd._whole_file import replaced

@@ -1,4 +1,4 @@
-"""Captures for Wireshark, read by tshark: of a log, of a running server, and from the captures that Wireshark lists."""
+"""Captures for Wireshark, which tshark reads: of a log, of a running server, and from Wireshark's list of interfaces."""
 
 import shutil
 import signal
@@ -17,14 +17,14 @@ from canbusd.server import Server
 
 pytestmark = pytest.mark.skipif(not shutil.which("tshark"), reason="no tshark")
 READY = 0x7FF
-# The fields of a frame in tshark, which writes a flag as 1 or as True, by its version.
+# The fields of a frame in tshark. A flag is written as 1 or True, depending on the version.
 FIELDS = "frame.interface_name frame.packet_flags_direction frame.time_epoch can.flags.err can.id can.flags.xtd can.flags.rtr"
 FIELDS_OF_FD = "canfd.flags.brs canfd.flags.esi can.len data.data"
 DIRECTIONS = {"": "", "1": "in", "2": "out"}
 
 
 def read(path):
-    """Returns the frames of a capture: interface, direction, time, and the frame in candump's spelling."""
+    """Returns the frames of a capture: interface, direction, time, and the frame in candump's notation."""
     words = [word for name in f"{FIELDS} {FIELDS_OF_FD}".split() for word in ("-e", name)]
     written = subprocess.check_output(
         ["tshark", "-r", path, "-T", "fields", *words], stderr=subprocess.DEVNULL, text=True
@@ -43,7 +43,7 @@ def row_of(name, way, moment, is_error, number, is_extended, is_remote, brs, esi
 
 
 def interfaces_of(path):
-    """Returns the interfaces of a capture, each with its bit rate, as capinfos reads them."""
+    """Returns the interfaces of a capture and their bit rates, which capinfos prints."""
     written = subprocess.check_output(["capinfos", path], text=True)
     found = {}
     for line in written.split("Interface #0 info:")[1].splitlines():
@@ -56,7 +56,7 @@ def interfaces_of(path):
 
 
 def test_a_log(tmp_path):
-    """frames have their interfaces and times, and a direction if the log marks them as sent"""
+    """Frames have their interfaces and times. They have a direction if the log marks frames as sent."""
     log = tmp_path / "run.log"
     log.write_text(
         LOG.replace("123#1122", "123#1122 R").replace("R4", "R4 T") + "(1795910923.100000) late 001##3AABB\n"
@@ -80,7 +80,7 @@ def test_a_log(tmp_path):
 
 
 def test_error_message_frames(tmp_path):
-    """bus off is shown, and a missing acknowledgement, which is a bus error too"""
+    """Wireshark shows bus off, and a missing acknowledgement together with its bus error."""
     (tmp_path / "run.log").write_text(
         "(1.000000) a 20000040#0000000000000000\n(1.000000) a 200000A0#0000821A00000000\n"
     )
@@ -95,7 +95,7 @@ def test_error_message_frames(tmp_path):
 
 
 def capturing(server, sender, path, *words):
-    """Starts a capture of a running server, and sends frames until the capture has the first one."""
+    """Starts a capture of a running server. Sends frames until the capture has the first one."""
     child = subprocess.Popen(
         words_of("dump", "--pcapng", path, *words),
         env=environment(server),
@@ -111,7 +111,7 @@ def capturing(server, sender, path, *words):
 
 
 def test_each_frame_once(tmp_path):
-    """each frame of several interfaces occurs once, at its sender; error message frames occur at their interfaces"""
+    """Each frame occurs once, at the interface of its sender. Error message frames occur at the interface that reports them."""
     path = tmp_path / "run.pcapng"
     with Server("can0,can1,can2", "body0", bitrate=500_000, data_bitrate=2_000_000, auto_restart=128) as server:
         with server.bus("can0", fd=True) as can0, server.bus("can1") as can1, server.bus("body0") as body:
@@ -139,7 +139,7 @@ def test_each_frame_once(tmp_path):
         assert [one for one in frames if one[0] == name and one[1].startswith(f"{number:03X}#")] == wanted
     assert frames.count(("can0", "12345678##1" + 12 * "00")) == 100
     assert len(frames) == 401
-    # can1 gets error warning, error passive, bus off, and the restart; the other interfaces report no change of state.
+    # can1 reports error warning, error passive, bus off and the restart. The other interfaces report no change of state.
     assert {(name, way) for name, way, text in rows if text == "ERROR#"} == {("can1", "in")}
     assert len([text for *_, text in rows if text == "ERROR#"]) in (3, 4)
     moments = [float(moment) for name, _, moment, _ in read(path) if name != "body0"]
@@ -150,8 +150,8 @@ def test_each_frame_once(tmp_path):
 
 
 def test_one_interface(tmp_path):
-    """frames of other interfaces are inbound, frames of the interface's own clients outbound; -n ends the capture, and
-    filters select"""
+    """Frames of the interface's own clients are outbound, and all other frames are inbound. -n limits the number of frames, and
+    filters select frames."""
     path = tmp_path / "run.pcapng"
     with Server("can0,can1") as server, server.bus("can0") as can0, server.bus("can1") as can1:
         child = capturing(server, can0, path, "-n", "60", "can1,100:700,7FF:7FF")
@@ -165,7 +165,7 @@ def test_one_interface(tmp_path):
 
 
 class Heard:
-    """A session that has received these frames, while more frames wait in the socket."""
+    """A stand-in for a session that has received these frames. Further frames wait in its socket."""
 
     def __init__(self, *frames, later=()):
         self.frames, self.later = [*frames], [*later]
@@ -180,8 +180,7 @@ class Heard:
 
 
 def test_frames_that_come_one_after_another():
-    """a frame is identified by its time and its text; a frame that one session has early waits for the other
-    sessions"""
+    """Frames with the same time and text are one frame. If one session is ahead, its frames wait for the other sessions."""
     one, sent = Frame(1, timestamp=5.0), Frame(1, timestamp=5.0, is_rx=False)
     other = Frame(2, timestamp=6.0)
     merged = Merged([("a", Heard(one)), ("b", Heard(later=[sent, other])), ("c", Heard())])
@@ -189,7 +188,7 @@ def test_frames_that_come_one_after_another():
     assert merged.has_more
     assert [(name, str(frame), way) for name, frame, way in merged.take()] == [("b", "002#", 1)]
     assert not merged.has_more
-    # A frame comes twice at one time, as in virtual time; and two buses each have the same sent frame.
+    # A frame may occur twice at one time, as in virtual time. Two buses may each have the same sent frame.
     merged = Merged([("a", Heard(one, one)), ("b", Heard(sent, sent))])
     assert [name for name, _, _ in merged.take()] == ["b", "b"]
     merged = Merged([("a", Heard(sent)), ("b", Heard(sent))])
@@ -226,7 +225,7 @@ def home(tmp_path):
 
 
 def test_in_the_list_of_wireshark(home, tmp_path):
-    """the list works without a server; it has each interface of the running server, and a capture of all of them"""
+    """The list also works without a server. With one, it has each interface and a capture of all interfaces."""
 
     def listed(**more):
         words = {**environment(), "HOME": str(home), "CANBUSD_ADDRESS": str(tmp_path / "none"), **more}
@@ -240,7 +239,7 @@ def test_in_the_list_of_wireshark(home, tmp_path):
     with Server("can0,can1") as server, server.bus("can0") as can0:
         every = ["canbusd (canbusd: all interfaces)", "canbusd-can0 (canbusd: can0)", "canbusd-can1 (canbusd: can1)"]
         assert listed(CANBUSD_ADDRESS=server.address) == every
-        # The server is an option of the capture.
+        # The address of the server is an option of the capture.
         words = ["tshark", "-i", "canbusd", "-o", f"extcap.canbusd.address:{server.address}", "-c", "20", "-w", path]
         elsewhere = {**environment(), "HOME": str(home), "CANBUSD_ADDRESS": str(tmp_path / "none")}
         child = subprocess.Popen(words, env=elsewhere, stderr=subprocess.PIPE)
@@ -251,13 +250,13 @@ def test_in_the_list_of_wireshark(home, tmp_path):
         said = child.communicate()[1]
         assert child.poll() == 0, said
     frames = [(name, way, text) for name, way, _, text in read(path)]
-    # The capture opens one interface after the other: before it opens can0, it may see a frame of can0 arrive at can1.
+    # The capture opens one interface after the other. Before it opens can0, it may see a frame of can0 that arrives at can1.
     first = frames.index(("can0", "out", "7FF#"))
     assert frames == first * [("can0", "in", "7FF#")] + (20 - first) * [("can0", "out", "7FF#")]
 
 
 def test_what_wireshark_asks(home, tmp_path):
-    """no capture filter is accepted; a missing server is named"""
+    """Any capture filter is refused. If there is no server, the message says so."""
     script, server = home / ".config" / "wireshark" / "extcap" / "canbusd", str(tmp_path / "none")
 
     def asked(*words):

@@ -1,4 +1,4 @@
-"""`canbusd bench` on a pipe, byte for byte; the package's own tests ask it by canbusd.Bench."""
+"""`canbusd bench` on a pipe, byte for byte. The tests of the package use canbusd.Bench for this."""
 
 import os
 import select
@@ -10,7 +10,7 @@ from serving import WAIT, program
 
 
 class Bench:
-    """A bench whose input and output are pipes."""
+    """A bench with pipes for its input and output."""
 
     def __init__(self, *words):
         self.child = subprocess.Popen(
@@ -29,7 +29,7 @@ class Bench:
         self.child.stdin.write(text.encode())
 
     def ask(self, text, answer):
-        """Writes, and has to get the answer while its end of the pipe stays open."""
+        """Writes the text, and waits for exactly this answer while the input stays open."""
         self.write(text)
         got = b""
         while len(got) < len(answer):
@@ -42,7 +42,7 @@ class Bench:
 
 
 def test_bench_in_a_dialogue():
-    """each answer comes before more is asked, also where a piece ends within a line"""
+    """Each answer comes before the next input, even if a piece of input ends within a line."""
     with Bench("can0,can1") as bench:
         bench.ask("session 1\n", "1 < hi >\n")
         bench.ask("session 2\n", "2 < hi >\n")

@@ -1,4 +1,4 @@
-"""Lines of a bench that are carried out, and the limits of lines, input, lists and queues."""
+"""Valid lines of a bench, and the limits of lines, input, lists and queues."""
 
 import os
 import shutil
@@ -9,7 +9,7 @@ import pytest
 from commands import TWO_SESSIONS, TWO_STARTED, call, run_line
 from serving import ROOT, program
 
-# Words, what comes after the two sessions, and what is written then.
+# Command lines, input after the two sessions, and the output for that input.
 CARRIED_OUT = [
     (
         "bench can0,can1",
@@ -63,7 +63,7 @@ CARRIED_OUT = [
             "64 < error wrong state >< error wrong state >< error no such interface >\n"
         ),
     ),
-    # The winner: the 11-bit identifier if the first 11 bits are equal, then the lower interface.
+    # If the first 11 bits are equal, the 11-bit identifier wins. If whole identifiers are equal, the lower interface wins.
     (
         "bench --ack always --report can0,can1,can2",
         "feed 1 < send 048C0000 0 >\nfeed 2 < send 123 0 >\nattempt\nattempt\n",
@@ -79,7 +79,8 @@ CARRIED_OUT = [
         "feed 1 < send 124 0 >\nfeed 2 < send 048C0000 0 >\nattempt\nattempt\n",
         "tried can1 0 done can0 -\ntried can0 0 done can1 -\n",
     ),
-    # Frames of 45 and 60 bits, and 3 between them; an FD frame with BRS has 27 bits, and 32 at the data bit rate.
+    # Frames have 45 and 60 bits, with 3 bits of intermission. With BRS, an FD frame has 27 nominal bits, and 32 bits at the data
+    # bit rate.
     (
         "bench --bitrate 500000 can0,can1",
         "feed 1 < send 123 0 >< fdframes 1 >< sendfd 123 0 >\nrun 0.000096\nattempt\n",
@@ -96,9 +97,9 @@ CARRIED_OUT = [
         "1 < ok >\ntried can0 0 done can1 - at 0.000090\ntried can0 1 done can1 - at 0.000216\n",
     ),
 ]
-# Sixteen names of fifteen bytes each.
+# Sixteen names of fifteen bytes.
 NAMES = [f"interface-no-{number:02}" for number in range(16)]
-# The record of a frame from the first of these interfaces to the last, with all else as it is by default.
+# The record of a frame from the first of these interfaces to the last. All other values are defaults.
 SIXTEEN = """canbus record 1
 bus 16 always FFFF 10 1000000
 open 0 256 = socket 0
@@ -112,7 +113,7 @@ end 6
 
 
 def carries_out(line, lines, written):
-    """Whether a bench of two sessions writes this."""
+    """Returns whether a bench of two sessions writes exactly this output for these lines."""
     return run_line(line, TWO_SESSIONS + lines) == (0, TWO_STARTED + written, "")
 
 
@@ -122,7 +123,7 @@ def test_lines_that_are_carried_out(line, lines, written):
 
 
 def test_error_message_frames_are_no_refusals():
-    """nor are notes"""
+    """Neither error message frames nor notes count as refusals."""
     masks = "< errmask 1FFFFFFF >< errdata 1 >"
     text = f"session 1\nfeed 1 < open can0 >< rawmode >{masks}< send 123 0 >\nattempt\ndrain 1\nfeed 1 x\n"
     errors = "note: session 1: bytes outside < and > were skipped\n"
@@ -131,7 +132,7 @@ def test_error_message_frames_are_no_refusals():
 
 
 def test_nobody_acknowledges_without_a_receiver():
-    """a node that is error passive counts no more of that"""
+    """If no node acknowledges, an error passive node does not increase its count for that."""
     text = "session 1\nfeed 1 < open can0 >< rawmode >< send 123 0 >\n" + 17 * "attempt\n"
     output = "1 < hi >\n1 < ok >< ok >\n" + 17 * "tried can0 0 noack - -\n"
     assert run_line("bench --ack peers can0", text) == (0, output, "")
@@ -158,7 +159,7 @@ def test_limits_of_lines_and_messages(line, reply, note):
 
 @pytest.mark.parametrize("before, after, number", [("", "", 2), ("\n", "\n", 3)])
 def test_a_line_that_is_too_long(before, after, number):
-    """72 bytes of it are shown"""
+    """The report shows the first 72 bytes of a line that is too long."""
     text = f"session 1\n{before}{'#' * 4097}{after}"
     errors = (
         f"canbusd: line {number}: bad line\n  standard input:{number}: {'#' * 72}..\n  a line has at most 4096 bytes\n"
@@ -177,7 +178,7 @@ def test_limit_of_the_input():
 
 @pytest.mark.skipif(not shutil.which("cc"), reason="no C compiler: cc")
 def test_limit_of_the_reads(tmp_path):
-    """where each gives one byte (short_reads.c), no read is left to find the end of the longest input"""
+    """If each read gives only one byte (short_reads.c), the longest input takes all reads, and none is left to find its end."""
     library, text = tmp_path / "short_reads.so", tmp_path / "input"
     source = os.path.join(ROOT, "tests", "helpers", "short_reads.c")
     subprocess.run(["cc", "-O2", "-Wall", "-Werror", "-fPIC", "-shared", "-o", library, source], check=True)
@@ -189,7 +190,7 @@ def test_limit_of_the_reads(tmp_path):
 
 
 def test_a_message_sets_250_filters():
-    """it has at most 1,024 bytes, so these have one digit each: only the last lets 123 pass"""
+    """A message has at most 1,024 bytes, so these filters have one digit each. Only the last filter matches 123."""
     filters = f"feed 2 < filter 250{' 1 F' * 249} 3 F >\n"
     lines = f"{filters}feed 1 < send 123 0 >< send 124 0 >\nattempt\nattempt\ndrain 2\n"
     written = "tried can0 0 done can1 -\ntried can0 1 done can1 -\n2 < frame 123 0.000000  >\n"
@@ -231,7 +232,8 @@ def test_a_bus_has_16_interfaces(tmp_path):
 
 
 def test_a_long_run(tmp_path):
-    """two sockets are opened; a round is a send, an attempt and two receives, of which the second finds nothing"""
+    """The record has two opens, and four entries a round: a send, an attempt and two receives. The second receive finds no frame.
+    """
     lines = 4000 * "feed 1 < send 123 0 >\nattempt\ndrain 2\n"
     rounds = [f"tried can0 {number} done can1 -\n2 < frame 123 0.000000  >\n" for number in range(4000)]
     line = "bench --record run.rec can0,can1"

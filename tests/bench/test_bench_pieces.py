@@ -1,4 +1,4 @@
-"""Inputs of a bench, complete and a byte at a time: the reports on their lines and messages."""
+"""Inputs of a bench, complete or one byte at a time: the reports on lines and messages are the same."""
 
 import pytest
 
@@ -6,7 +6,7 @@ from commands import TWO_SESSIONS, TWO_STARTED, run_bytes, run_line
 
 OUTSIDE = "note: session 2: bytes outside < and > were skipped\n"
 BEGUN = "note: session 1: the last message has no >\n"
-# The lines after the two sessions, their output, and the report after the run.
+# Input after the two sessions, its output, and the report at the end of the run.
 NOTED = [
     ("feed 1 < echo >  < echo >\t\nfeed 1 < ec\nfeed 1 ho >\n", "1 < echo >< echo >\n1 < echo >\n", ""),
     ("feed 2 echo\n", "", OUTSIDE),
@@ -26,7 +26,7 @@ NOTED = [
         "note: session 64: bytes outside < and > were skipped\n",
     ),
 ]
-# The lines after the two sessions, their output, and the report for the first piece with a refusal.
+# Input after the two sessions, its output, and the report on the first refused message.
 REFUSED = [
     ("feed 1 < send 123 2 1122 >\n", "1 < error bad word count >\n", "error bad word count >\n"),
     (
@@ -43,7 +43,7 @@ MISSING = "  no line before it starts session 3\n"
 WITH_CR = "  this line ends with CR and LF: lines end with only LF\n"
 OTHER = "  a line begins with at, session, feed, drain, end, fault, attempt, down or up; see canbusd help bench\n"
 CHANGE = "  down NAME or up NAME: one space comes before the name of an interface, as down can0\n"
-# A refused line, its form in the report, and the report itself.
+# A refused line, the line as the report shows it, and the rest of the report.
 FAULTY = [
     ("at 10000000000.000000", "at 10000000000.000000", AT),
     ("at 1.00000", "at 1.00000", AT),
@@ -78,7 +78,7 @@ FAULTY = [
 
 
 def runs(line, text, wanted):
-    """Checks that the words of a line give this status, output and errors, however the input is cut."""
+    """Checks that this command line gives this status, output and errors for the input, complete or one byte at a time."""
     for run in (run_line, run_bytes):
         assert run(line, text) == wanted
 
@@ -103,7 +103,7 @@ def test_lines_that_are_refused(line, shown, note):
 
 @pytest.mark.parametrize("count", [0, 1, 1023, 1024, 1025, 2048, 2049, 5000])
 def test_a_line_far_down_is_refused(count):
-    """this many lines of 8 bytes come before it: more than are kept"""
+    """This many lines of 8 bytes come before the refused line. In some cases they are more than the program keeps."""
     line = count + 1
     errors = (
         f"canbusd: line {line}: bad line\n  standard input:{line}: drain 64\n  no line before it starts session 64\n"
@@ -112,7 +112,7 @@ def test_a_line_far_down_is_refused(count):
 
 
 def test_a_line_of_4097_bytes_is_refused():
-    """the line would be valid if it were shorter, and 72 bytes of it are shown"""
+    """The line would be valid if it were shorter. The report shows its first 72 bytes."""
     first = "canbusd: line 1: bad line\n  standard input:1: feed 1 "
     errors = f"{first}{65 * 'x'}..\n  a line has at most 4096 bytes\n"
     runs("bench can0", f"feed 1 {4090 * 'x'}\n", (1, "", errors))

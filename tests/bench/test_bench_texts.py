@@ -1,4 +1,4 @@
-"""Benches as texts: what goes in, and what is written then, worked out from the rules of the bus."""
+"""Benches as texts: the input, and the expected output, which was worked out from the rules of the bus."""
 
 import subprocess
 

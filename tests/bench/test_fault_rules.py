@@ -1,7 +1,7 @@
-"""Fault rules: the program gives the verdicts of rule_model.py, on random runs and texts; and each way to give a rule.
+"""Fault rules: on random runs and texts, the program gives the same verdicts as rule_model.py. Each way to give a rule works.
 
-The model is asked for the verdict of each attempt of a record, and how many rules are left for the answer to each
-message. The package decides whether a text is a rule.
+The model computes the verdict of each attempt in a record, and the number of remaining rules in each answer. The package decides
+whether a text is a rule.
 """
 
 import itertools
@@ -20,17 +20,16 @@ from rule_model import EXTENDED, REMOTE, RunFaults, word_of
 from serving import Plain, plain, serving
 
 LASTBIT = "next 1 lastbit"
-# The words before the names of senders, and the names.
+# Matches the words before the names of senders, and these names.
 SENDERS = re.compile(f"(?:next (?!0+ )[0-9]{{1,8}}|always) from ({NAMES})(?: |$)")
 
 
 def fault_of(text, names, faults):
-    """Returns the fault if this text is given as a rule to a bus with these faults; None if the bus accepts the
-    rule."""
+    """Returns the error for this text as a rule on a bus with these faults, or None if the bus accepts the rule."""
     try:
         rule = parse_rule(text)
     except ValueError:
-        # The first wrong word decides, and an unknown sender comes before another fault.
+        # An unknown sender is reported before other errors. Otherwise the first wrong word decides.
         senders = SENDERS.match(text)
         known = not senders or {*senders[1].split(",")} <= {*names}
         return "bad rule" if known else "no such interface"
@@ -42,7 +41,7 @@ def fault_of(text, names, faults):
 
 
 def answer(text, names, faults):
-    """Returns the answer to a message about rules, and updates the faults."""
+    """Returns the answer to a message about rules, after it has changed the faults accordingly."""
     command, _, words = " ".join(text.split()).partition(" ")
     if command == "faults":
         return f"< faults {len(faults.rules)} >"
@@ -56,7 +55,7 @@ def answer(text, names, faults):
 
 
 def shown(verdict, rule, names):
-    """Returns the end of an attempt's line with `--show-faults`: its fault, and the number of its rule."""
+    """Returns how the line of an attempt ends with `--show-faults`: with the fault and the number of its rule."""
     kind, _, hit = verdict.partition(":")
     members = ",".join(name for place, name in enumerate(names) if hit and int(hit, 16) >> place & 1)
     fault = "" if verdict == "good" else f"; fault {' '.join([*kind.split('-'), *filter(None, [members])])}"
@@ -71,7 +70,7 @@ def run(program, words, text, folder):
 
 
 def difference(program, case, folder):
-    """Returns the first difference between a run and the model, or None."""
+    """Returns the first difference between a run and the model, or None if they agree."""
     case.write_to(folder)
     done = run(program, case.words, case.text, folder)
     if done.returncode:
@@ -104,8 +103,8 @@ def difference(program, case, folder):
 
 
 def shown_difference(program, case, folder, lines, ends):
-    """Returns the first difference in the same run with `--show-faults`, in which lines of attempts with frames have
-    this end."""
+    """Returns the first difference if the same run is made with `--show-faults`, which adds these ends to the lines of attempts
+    with a frame."""
     done = run(program, ["bench", "--show-faults", *case.words[1:]], case.text, folder)
     wanted = [line + next(ends) if line.startswith("tried ") else line for line in lines]
     pairs = itertools.zip_longest(done.stdout.decode().splitlines(), wanted)
@@ -114,10 +113,9 @@ def shown_difference(program, case, folder, lines, ends):
 
 @pytest.mark.parametrize("count", [200, pytest.param(2000, marks=pytest.mark.slow)])
 def test_random_runs(request, program, tmp_path, count):
-    """the model gives the same verdict of each attempt, and the same answer to each message; the files of a differing
-    run are kept"""
+    """The model gives the same verdicts and the same answers as the program. The files of a run that differs are kept."""
     maker, faults = RuleMaker(request.config.getoption("seed")), []
-    # Later tests cover lines that end a bench with a fault: here the 65th rule of a bus comes by a message.
+    # Other tests cover lines that end a bench with an error. Here a 65th rule is only given by a message.
     cases = filter(lambda case: not overfull(case), iter(maker.case, None))
     for number, case in enumerate(itertools.islice(cases, count)):
         differs = difference(program, case, tmp_path / str(number % 2))
@@ -128,7 +126,7 @@ def test_random_runs(request, program, tmp_path, count):
 
 
 def overfull(case):
-    """Returns whether a line might be one rule too many."""
+    """Returns whether a line of this case might give more rules than a bus takes."""
     given = sum(kind in ("line", "message") for kind, _ in case.operations) + len(lines_of(case.script))
     return given > MOST_RULES and any(kind == "line" for kind, _ in case.operations)
 
@@ -143,7 +141,7 @@ def test_the_same_input_gives_the_same_output(request, program, tmp_path):
 
 
 def test_random_texts_in_messages(program, rng, cases, tmp_path):
-    """the program agrees on whether a text is a rule, and on the reason if not"""
+    """The program and the package agree on whether a text is a rule, and on the reason if it is none."""
     maker, names = RuleMaker(rng.random()), ["can0", "can1"]
     rules = [maker.rule(names) for _ in range(cases)]
     texts = [text.encode("ascii", "ignore").decode() for text in map(maker.changed, rules)]
@@ -158,7 +156,7 @@ def test_random_texts_in_messages(program, rng, cases, tmp_path):
 
 @pytest.mark.parametrize("count", [50, pytest.param(1000, marks=pytest.mark.slow)])
 def test_random_texts_in_scripts_and_lines(program, rng, tmp_path, count):
-    """each wrong text is reported with its line number, and a note"""
+    """Each wrong text is reported with its line number and a note."""
     maker, names = RuleMaker(rng.random()), ["can0", "can1"]
     for _ in range(count):
         text = maker.changed(maker.rule(names))
@@ -173,14 +171,14 @@ def test_random_texts_in_scripts_and_lines(program, rng, tmp_path, count):
 
 
 def check_report(done, reported, text):
-    """Checks that a run ended as expected: with this fault and a note, or without a fault."""
+    """Checks the end of a run: with this error and a note, or without an error."""
     first, *notes = done.stderr.decode().splitlines() or [""]
     assert (done.returncode, first) == ((1, f"canbusd: {reported}") if reported else (0, "")), text
     assert bool(notes) is bool(reported) and all(note.startswith("  ") for note in notes), notes
 
 
 def test_64_rules(program, tmp_path):
-    """one more rule is refused in each way, and changes nothing"""
+    """However a 65th rule is given, it is refused and changes nothing."""
     (tmp_path / "full.script").write_text("always good\n" * 64)
     (tmp_path / "more.script").write_text("always good\n" * 64 + "\n" + LASTBIT)
     done = run(program, ["bench", "can0@more.script"], "", tmp_path)
@@ -195,7 +193,7 @@ def test_64_rules(program, tmp_path):
     assert done.stdout.decode().splitlines()[-1] == "1 < ok >< faults 1 >"
 
 
-# The modes of a session, and the reply to a rule in each.
+# The modes of a session, with the reply to a rule in each mode.
 MODES = {
     "": "wrong state",
     "< open can0 >": "",
@@ -206,7 +204,7 @@ MODES = {
 
 @pytest.mark.parametrize("opening, fault", MODES.items())
 def test_when_a_session_may_give_rules(program, tmp_path, opening, fault):
-    """a session may give rules after it has opened an interface"""
+    """A session may give rules only after it has opened an interface."""
     lines = f"session 1\nfeed 1 {opening}< echo >\nfeed 1 < fault {LASTBIT} >< faults >< nofaults >< faults >\n"
     done = run(program, ["bench", "can0"], lines, tmp_path)
     got = done.stdout.decode().splitlines()[2:]
@@ -226,7 +224,7 @@ def test_a_rule_without_words(program, tmp_path):
     assert done.stdout.decode().splitlines()[-1] == "1 < ok >< error bad word count >< error unknown command >"
 
 
-# Each verdict of a rule, and the items that two receivers get for a frame.
+# The verdicts of a rule, and the number of items that two receivers get for one frame.
 VERDICTS = {
     "global bit": (1, 1),
     "global form": (1, 1),
@@ -238,7 +236,7 @@ VERDICTS = {
 
 @pytest.mark.parametrize("verdict, copies", VERDICTS.items())
 def test_a_rule_from_a_socket(verdict, copies):
-    """the rule applies from the next attempt on, only to the bus of the session's interface"""
+    """The rule applies from the next attempt on, and only to the bus of the session's interface."""
     with serving("can0,can1,can2", "car0,car1") as server:
         giver, sender, *receivers = [Plain(server), *(plain(server, name) for name in ("can0", "can1", "can2"))]
         assert [giver.text(), giver.answer("< open can1 >")] == ["< hi >", "< ok >"]
@@ -276,7 +274,7 @@ def test_refusals_to_a_socket():
 
 
 def test_no_rules_keeps_the_script(program, tmp_path):
-    """numbered lines stay after `nofaults`, and take precedence over rules"""
+    """`nofaults` keeps numbered lines, and numbered lines decide before rules."""
     (tmp_path / "my.script").write_text("1 global form\nalways lastbit\n2 good\n")
     asks = ["session 1", "feed 1 < open can0 >< rawmode >< send 123 0 >", "attempt", "feed 1 < nofaults >"]
     words = ["bench", "--record", RECORD, "can0@my.script"]
@@ -287,7 +285,7 @@ def test_no_rules_keeps_the_script(program, tmp_path):
 
 
 def test_one_node_of_two_goes_bus_off(program, tmp_path):
-    """one frame of it suffices, whatever the other node sends between"""
+    """A single frame of a node suffices to make it bus off, whatever the other node sends in between."""
     opening = "".join(f"session {n}\nfeed {n} < open {name} >< rawmode >\n" for n, name in ((1, "ecu"), (2, "tester")))
     turns = "feed 2 < send 100 0 >\nfeed 1 < send 200 0 >\nattempt\nattempt\n" * 40
     done = run(program, ["bench", "ecu,tester"], f"{opening}fault next 32 from ecu global bit\n{turns}", tmp_path)
@@ -302,16 +300,16 @@ ECU, OTHER = 0, 1
 
 
 def planned(*lines):
-    """Returns the faults of a bus with a script of these lines."""
+    """Returns the faults of a bus whose script has these lines."""
     return RunFaults("\n".join(lines), ["ecu", "other"])
 
 
 def verdicts(faults, *attempts):
-    """Returns the verdicts of these attempts, each a winner and an identifier word."""
+    """Returns the verdicts of these attempts. An attempt is a winner and an identifier word."""
     return [faults.decide(winner, word)[0] for winner, word in attempts]
 
 
-# Tests of the model itself, from the words of the design.
+# The following tests check the model itself against the words of the design.
 
 
 def test_who_sends_and_what():
@@ -333,7 +331,7 @@ def test_who_sends_and_what():
 def test_the_first_rule_that_matches_decides():
     a, b = (ECU, 1), (OTHER, 1)
     faults = planned("next 1 from other good", "next 2 skip 1 lastbit", "always global bit")
-    # Only attempts that a rule decides, or skips, count for the rule.
+    # Only attempts that a rule decides or skips count for that rule.
     assert verdicts(faults, a, b, b, a, a) == ["global-bit", "good", "lastbit", "lastbit", "global-bit"]
     assert [rule.number for rule in faults.rules] == [3]
 

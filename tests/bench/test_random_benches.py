@@ -1,8 +1,8 @@
 """`canbusd bench` compared with an independent program, on random runs.
 
-The program is benches/limit.c, or --other SOURCE.c, compiled with cc, and is called as `PROGRAM bench OPTIONS BUS`,
-like canbusd. Standard output, the status and the line of a fault must be the same; for a fault of the command line,
-only the status.
+The program is benches/limit.c, or the one of --other SOURCE.c, compiled with cc. It is called as `PROGRAM bench OPTIONS BUS`, like
+canbusd. Standard output, the status and the line of an error must be equal. For an error in the command line, only the status must
+be equal.
 """
 
 import itertools
@@ -21,7 +21,7 @@ pytestmark = pytest.mark.skipif(not shutil.which(COMPILER), reason=f"no C compil
 
 @pytest.fixture
 def other(request, tmp_path):
-    """The other program."""
+    """The independent program, compiled."""
     source = request.config.getoption("other")
     program = tmp_path / "other"
     subprocess.run([COMPILER, "-O2", "-march=native", "-o", program, source], check=True)
@@ -35,10 +35,10 @@ def run(program, case, folder):
 
 
 def difference(one, other):
-    """Returns the first difference between two runs, or None."""
+    """Returns the first difference between two runs, or None if they agree."""
     if one.returncode != other.returncode:
         return f"status {one.returncode}, other {other.returncode}: {one.stderr!r}, other {other.stderr!r}"
-    # The lines after the line of a fault are canbusd's own, and so are those after a complete run.
+    # Only canbusd writes lines after the line of an error, or after a complete run.
     if one.returncode == 1 and one.stderr.splitlines()[:1] != other.stderr.splitlines()[:1]:
         return f"standard error {one.stderr!r}, other {other.stderr!r}"
     lines = itertools.zip_longest(one.stdout.split(b"\n"), other.stdout.split(b"\n"))
@@ -49,7 +49,7 @@ def difference(one, other):
 
 
 def test_beside_an_independent_program(request, program, other, cases, tmp_path):
-    """random runs agree; the files of differing runs are kept"""
+    """The two programs agree on random runs. The files of runs that differ are kept."""
     maker, faults = Maker(request.config.getoption("seed"), has_newer=False), []
     for number in range(cases):
         case, folder = maker.case(), tmp_path / str(number % 2)

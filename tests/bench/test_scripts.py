@@ -4,7 +4,7 @@ import pytest
 
 from commands import TWO_SESSIONS, TWO_STARTED, run_line
 
-# A script, the lines after the two sessions, and their output.
+# Each case has a script, the input after the two sessions, and the expected output.
 FOLLOWED = [
     (
         "# An idle attempt has no verdict.\n\n0 lastbit",
@@ -45,7 +45,7 @@ FOLLOWED = [
         "1 < ok >< faults 2 >\ntried can0 0 lastbit can1 -\n2 < ok >< faults 0 >\ntried can1 0 done can0 -\n",
     ),
 ]
-# A script, the fault, its line and the form of that, and the report.
+# A script, the error, the place and the text of the wrong line, and a note.
 FAULTY = [
     (
         b"0 good\n5 local crc can1\n# 05\n05 good",
@@ -121,7 +121,7 @@ FAULTY = [
 
 
 def carries_out(script, lines, written, folder, *options):
-    """Returns whether a bench of two sessions under a script writes this output."""
+    """Returns whether a bench of two sessions with this script writes exactly this output."""
     (folder / "a.script").write_text(script)
     line = " ".join(["bench", *options, "can0,can1@a.script"])
     return run_line(line, TWO_SESSIONS + lines, cwd=folder) == (0, TWO_STARTED + written, "")
@@ -137,7 +137,7 @@ def test_scripts_that_are_followed(script, lines, written, tmp_path):
     [("lastbit", "lastbit can1", f"2 {'< frame 123 0.000000  >' * 32}\n"), ("global bit", "destroyed -", "")],
 )
 def test_bus_off_after_32_faults(verdict, tried, heard, tmp_path):
-    """the frame is tried until its interface is bus off; then no frame remains, and none is accepted"""
+    """The frame is tried until its interface is bus off. Then the queue is empty, and no frame is accepted."""
     script = "".join(f"{number} {verdict}\n" for number in range(32))
     sends = "feed 1 < send 123 0 >< send 124 0 >\n"
     lines = sends + 32 * "attempt\n" + "drain 2\nfeed 1 < send 123 0 >\nattempt\n"
@@ -157,7 +157,7 @@ def test_faults_are_reported_where_that_is_asked_for(tmp_path):
 
 @pytest.mark.parametrize("script, fault, place, note", FAULTY)
 def test_scripts_that_are_refused(script, fault, place, note, tmp_path):
-    """they are refused before the limits of the bus are checked"""
+    """A wrong script is refused before the limits of the bus are checked."""
     (tmp_path / "faulty.script").write_bytes(script)
     errors = f"canbusd: {fault}\n  faulty.script:{place}\n  {note}\n"
     assert run_line("bench --limit 0 can0,can1@faulty.script", "session 1\n", cwd=tmp_path) == (1, "", errors)

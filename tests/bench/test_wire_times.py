@@ -1,5 +1,4 @@
-"""`canbusd bench --bitrate`: its times are identical to those of wire_times.py, which knows nothing about the
-program."""
+"""`canbusd bench --bitrate` gives the same times as wire_times.py, which is independent of the program."""
 
 from __future__ import annotations
 
@@ -20,15 +19,15 @@ from wire_model import KNOWN_LENGTHS, Frame, bit_counts, random_data
 from wire_times import Ending, Message, Rates, Release, Sent, ending_of, simulated, use, worst_response
 
 LAST = 1_000_000 * MICRO
-# The last nanosecond of the last possible time.
+# The last nanosecond that a time can have.
 LATEST = 10**19 - 1
 
-# Three messages of 216 us with intermission at 500 kbit/s, with periods of 2.5, 3.5 and 3.5 of these: the second instance
-# of the third has the worst response (Davis, Burns, Bril and Lukkien, Real-Time Systems 35, 2007, section 3.2).
+# Three messages of 216 us with intermission at 500 kbit/s, with periods of 2.5, 3.5 and 3.5 of these. The second instance of the
+# third message has the worst response (Davis, Burns, Bril and Lukkien, Real-Time Systems 35, 2007, section 3.2).
 THREE = [Frame.read(text) for text in ("001#55555555555505", "002#55555555555503", "003#5555555555557C")]
 PERIODS = [540 * MICRO, 756 * MICRO, 756 * MICRO]
 
-# Failing attempts: `--ack`, the verdict, the text of the line, and the place of the error flag.
+# Failing attempts: `--ack`, the verdict, the output, and the place of the error flag.
 FAILED = [
     ("always", "lastbit", "lastbit can1 -", Ending.LAST_BIT),
     ("always", "global bit", "destroyed - -", Ending.AFTER_DATA),
@@ -45,7 +44,7 @@ def interfaces(count: int) -> list[str]:
 
 
 def lines_of(releases: Iterable[Release]) -> list[str]:
-    """Returns the lines that queue frames at their times, and let the bus run between them."""
+    """Returns lines that queue the frames at their times, and run the bus in between."""
     lines: list[str] = []
     now = -1
     for release in sorted(releases, key=lambda release: release.time):
@@ -57,7 +56,7 @@ def lines_of(releases: Iterable[Release]) -> list[str]:
 
 
 def expected_lines(sent: Iterable[Sent], nodes: int) -> list[str]:
-    """Returns the output of a bench for these frames."""
+    """Returns the output of a bench that sends these frames."""
     counts = [0] * nodes
     lines = []
     for one in sent:
@@ -69,7 +68,7 @@ def expected_lines(sent: Iterable[Sent], nodes: int) -> list[str]:
 
 
 def check(program: str, releases: Sequence[Release], nodes: int, rates: Rates) -> list[Sent]:
-    """Checks that a bench sends these frames like the model; returns the model's result."""
+    """Checks that a bench sends these frames like the model, and returns the model's result."""
     sent = list(simulated(releases, rates))
     options = [*rate_options(rates), "--txqueue", "1024", "--rxqueue", "1"]
     assert bench(program, options, interfaces(nodes), lines_of(releases)) == expected_lines(sent, nodes)
@@ -77,7 +76,7 @@ def check(program: str, releases: Sequence[Release], nodes: int, rates: Rates) -
 
 
 def test_second_instance_responds_last(program: str) -> None:
-    """the times are those of the example in the repository, and the response equals the bound"""
+    """The times equal those of the example in the repository. The worst response equals the bound."""
     rates = Rates(500_000)
     messages = [Message(frame, period) for frame, period in zip(THREE, PERIODS)]
     releases = [r for node, message in enumerate(messages) for r in message.releases(node, 0, 1_080 * MICRO + 1)]
@@ -88,7 +87,7 @@ def test_second_instance_responds_last(program: str) -> None:
 
 
 def test_example(program: str) -> None:
-    """the example is this bus"""
+    """The example in the repository has these messages."""
     with open(os.path.join(ROOT, "examples", "response_times.bench"), encoding="utf-8") as file:
         lines = file.read()
     done = subprocess.run(
@@ -104,7 +103,7 @@ def test_example(program: str) -> None:
 
 
 def random_messages(maker: random.Random, rates: Rates) -> list[Message]:
-    """Returns messages by falling priority that leave the bus some time."""
+    """Returns messages in falling priority that do not fill the bus."""
     while True:
         messages = []
         share = maker.uniform(0.3, 0.97)
@@ -121,8 +120,8 @@ def random_messages(maker: random.Random, rates: Rates) -> list[Message]:
 
 
 def test_responses_of_random_messages(program: str, rng: random.Random, cases: int) -> None:
-    """the bench agrees with the model, and no response is worse than the analysis allows. If all messages are released
-    at once, the lowest reaches the bound, since nothing blocks it"""
+    """The bench agrees with the model, and no response is worse than the analysis allows. If all messages are released at once, the
+    lowest priority reaches its bound, because no message blocks it."""
     met = 0
     for case in range(max(6, cases // 40)):
         rates = Rates(rng.choice([10_000, 125_000, 250_000, 500_000, 1_000_000]))
@@ -153,7 +152,7 @@ def test_known_lengths(program: str, text: str, bits: int) -> None:
 
 
 def test_known_length_of_an_fd_frame(program: str) -> None:
-    """64 zero bytes have 27 bits, and 651 at the data bit rate"""
+    """64 zero bytes take 27 nominal bits, and 651 bits at the data bit rate."""
     frame = Frame(0x123, False, bytes(64), is_fd=True, brs=True)
     assert bit_counts(frame) == (27, 651)
     options = ["--bitrate", "1000000", "--dbitrate", "10000000"]
@@ -162,7 +161,7 @@ def test_known_length_of_an_fd_frame(program: str) -> None:
 
 
 def test_frames_without_brs_do_not_switch(program: str) -> None:
-    """for 64 zero bytes without BRS all bits use the nominal bit rate, whatever the data bit rate is"""
+    """Without BRS, all bits have the nominal bit rate, even if the bus has a data bit rate."""
     frame = Frame.read("123##0" + 64 * "00")
     bits, fast = bit_counts(frame)
     assert fast == 0 and bits > 600
@@ -172,7 +171,7 @@ def test_frames_without_brs_do_not_switch(program: str) -> None:
 
 
 def test_random_frames(program: str, rng: random.Random, cases: int) -> None:
-    """on a bus of their own, each frame begins at the end of the intermission before"""
+    """If only one node sends, each frame begins at the end of the intermission before it."""
     for _ in range(max(4, cases // 100)):
         rates = random_rates(rng)
         frames = [random_frame(rng) for _ in range(100)]
@@ -181,7 +180,7 @@ def test_random_frames(program: str, rng: random.Random, cases: int) -> None:
 
 @pytest.mark.parametrize("ack, verdict, says, ending", FAILED)
 def test_failed_attempts(program: str, rng: random.Random, ack: str, verdict: str, says: str, ending: Ending) -> None:
-    """the frame begins again at the end of the failed attempt, whose time is the end of the frame"""
+    """The frame is sent again as soon as the failed attempt ends. The time of the failed attempt is the end of frame."""
     for _ in range(10):
         rates, frame = random_rates(rng), random_frame(rng)
         names = ["can0"] if ack == "peers" else ["can0", "can1"]
@@ -196,8 +195,8 @@ def test_failed_attempts(program: str, rng: random.Random, ack: str, verdict: st
 
 
 def test_restart_by_attempts(program: str) -> None:
-    """with `--auto-restart 128` each attempt, failed or not, has one run of 11 recessive bits, so the interface is back
-    after another one has sent 128 frames"""
+    """With `--auto-restart 128` each attempt, failed or not, counts as one run of 11 recessive bits. The interface is back after
+    another one has sent 128 frames."""
     rates = Rates(500_000)
     sent = Frame.read("123#")
     other = Frame.read("100#")
@@ -219,7 +218,8 @@ def test_restart_by_attempts(program: str) -> None:
 
 @pytest.mark.parametrize("nominal, restart", [(500_000, 128), (5_000, 1), (83_333, 7), (1_000_000, 1_000)])
 def test_restart_on_an_idle_bus(program: str, nominal: int, restart: int) -> None:
-    """a run makes the attempts that an interface waits for, each of 11 recessive bits, like attempts of the input"""
+    """On an idle bus, a run makes the attempts that an interface needs for its restart. Each has 11 recessive bits, as for
+    `attempt` in the input."""
     rates, sent = Rates(nominal), Frame.read("123#")
     over = 32 * rates.attempt_nanos(sent, Ending.AFTER_DATA)
     ends = [moment(over + number * rates.idle_nanos()) for number in range(1, restart + 1)]
@@ -233,8 +233,8 @@ def test_restart_on_an_idle_bus(program: str, nominal: int, restart: int) -> Non
 
 
 def test_moments_of_idle_attempts_do_not_fall(program: str) -> None:
-    """a long FD frame that is destroyed after its data would have ended 19 bits after that attempt is over: the attempt
-    of 11 bits after it has the same time"""
+    """A long FD frame that is destroyed after its data would have ended 19 bits after the end of its attempt. So the next attempt
+    of 11 bits gets the same time."""
     rates, sent = Rates(1_000_000), Frame(0x123, False, bytes([0x55] * 64), is_fd=True)
     step, length = rates.attempt_nanos(sent, Ending.AFTER_DATA), rates.frame_nanos(sent)
     assert length - step == 19 * 1_000
@@ -251,18 +251,18 @@ def test_moments_of_idle_attempts_do_not_fall(program: str) -> None:
 
 
 def without_moments(output: bytes) -> bytes:
-    """Returns the output of a bench, without the times of attempts and received frames, and without the load."""
+    """Returns the output of a bench without the load, and without the times of attempts and received frames."""
     lines = re.sub(rb"^((?:tried|idle).*) at [0-9.]+$", rb"\1", output, flags=re.MULTILINE)
     lines = re.sub(rb"< load [0-9]+ [0-9]+ [0-9]+ [0-9]+ >", rb"< load >", lines)
     return re.sub(rb"(< (?:frame|fdframe|fdframex [0-3]|remote|error) [0-9A-F]+) [0-9]+\.[0-9]{6}", rb"\1", lines)
 
 
-# An attempt of a record: verdict, frame, outcome, the interfaces that went bus off, and the interfaces that were restarted.
+# Matches an attempt of a record: verdict, frame, outcome, interfaces that went bus off, and interfaces that were restarted.
 ATTEMPT = re.compile(r"attempt \S+ (\S+) = (?:idle|tried \d+ \d+ (\S+) (\S+) \S+ (\S+))(?: restarted (\S+))?$")
 
 
 def attempts_in(record: str) -> Iterator[tuple[str, str | None, str | None, bool]]:
-    """Returns the attempts of a record: verdict, frame, outcome, and whether an interface waited for its restart."""
+    """Yields the attempts of a record: verdict, frame, outcome, and whether an interface waited for its restart."""
     lines = record.splitlines()
     restarts = lines[1].split(" ")[6:] not in ([], ["0"])
     off = 0
@@ -276,8 +276,8 @@ def attempts_in(record: str) -> Iterator[tuple[str, str | None, str | None, bool
 
 
 def moments_of(text: bytes, record: str, rates: Rates) -> list[str]:
-    """Returns the times of the attempts of an input, from the frames in its record and their outcomes. An attempt
-    without a frame takes 11 bits while an interface waits for its restart, and times never fall."""
+    """Returns the times of the attempts of an input, computed from the frames and outcomes in its record. An attempt without a
+    frame takes 11 bits while an interface waits for its restart, and times never decrease."""
     attempts = attempts_in(record)
     moments, now, free, last = [], 0, 0, 0
     for line in text.split(b"\n"):
@@ -299,8 +299,8 @@ def moments_of(text: bytes, record: str, rates: Rates) -> list[str]:
 
 
 def test_random_runs(program: str, request: pytest.FixtureRequest, cases: int, tmp_path: pathlib.Path) -> None:
-    """bit rates change only times and the load, and the times are the model's, in random runs with faults of every
-    kind"""
+    """In random runs with faults of every kind, bit rates change only the times and the load, and the times are those of the model.
+    """
     seed = request.config.getoption("seed")
     maker, rng = random_benches.Maker(seed), random.Random(seed)
     compared = 0
@@ -376,7 +376,7 @@ def test_bad_lines(program: str, words: str, lines: str, number: int, note: str)
 
 
 def test_moments_are_set(program: str) -> None:
-    """`at` delays the next attempt, and does not free the wire earlier; waiting frames are not sent before it"""
+    """`at` delays the next attempt, and no waiting frame is sent earlier. It never shortens the attempt before."""
     lines = [*3 * ["feed 1 < send 123 0 >"], "attempt", "at 0.000010", "attempt", "at 0.000500", "attempt", "attempt"]
     assert bench(program, ["--bitrate", "500000"], ["can0"], lines) == [
         "tried can0 0 done - - at 0.000090",
@@ -387,7 +387,7 @@ def test_moments_are_set(program: str) -> None:
 
 
 def test_frames_have_their_moment(program: str, tmp_path: pathlib.Path) -> None:
-    """receivers, the log and the record have the time of the end of the frame"""
+    """Receivers, the log and the record all show the time of the end of frame."""
     lines = ["session 1", "feed 1 < open can0 >< rawmode >", "session 2", "feed 2 < open can1 >< rawmode >"]
     lines += ["feed 1 < send 123 0 >", "run 1.000000", "drain 2"]
     record, log = tmp_path / "run.rec", tmp_path / "run.log"
@@ -402,7 +402,7 @@ def test_frames_have_their_moment(program: str, tmp_path: pathlib.Path) -> None:
 
 
 def loads(program: str, options: Sequence[str], lines: Iterable[str]) -> list[str]:
-    """Returns the answers to `< load >` in a session, one for each line `load`."""
+    """Returns the answers to `< load >`, which replaces each line `load` of the input."""
     opened = ["session 1", "feed 1 < open can0 >< rawmode >< fdframes 1 >"]
     asked = ["feed 1 < load >" if line == "load" else line for line in lines]
     words = [program, "bench", *options, "can0"]
@@ -412,10 +412,10 @@ def loads(program: str, options: Sequence[str], lines: Iterable[str]) -> list[st
 
 
 def test_the_load_of_a_bench(program: str) -> None:
-    """each frame has 50 bits and 3 bits of intermission: 10.6 ms at 5 kbit/s"""
+    """Each frame has 50 bits and 3 bits of intermission, 10.6 ms at 5 kbit/s."""
     sent = "feed 1 < send 000 0 >"
     lines = ["load", sent, sent, sent, "run 0.500000", "load", "at 1.000000", "load"]
-    # From 1.9947 to 2.0053: 5.3 ms of each second. An attempt without a frame does not count.
+    # The frame takes from 1.9947 to 2.0053: 5.3 ms of each second. An attempt without a frame adds no load.
     lines += [sent, "at 1.994700", "attempt", "load", "attempt", "at 3.500000", "load", "at 4.000000", "load"]
     assert loads(program, ["--bitrate", "5000"], lines) == [
         "0 0 5000 5000",
@@ -428,21 +428,21 @@ def test_the_load_of_a_bench(program: str) -> None:
 
 
 def test_the_load_of_an_fd_frame(program: str) -> None:
-    """64 zero bytes take 6 ms for 27 bits and 3 of intermission at 5 kbit/s, and 13.02 ms for 651 bits at 50 kbit/s"""
+    """With 64 zero bytes, 27 bits and 3 of intermission at 5 kbit/s take 6 ms, and 651 bits at 50 kbit/s take 13.02 ms."""
     frame = Frame(0x123, False, bytes(64), is_fd=True, brs=True)
     lines = [f"feed 1 {send(frame)}", "attempt", "at 1.000000", "load"]
     assert loads(program, ["--bitrate", "5000", "--dbitrate", "50000"], lines) == ["19 19020 5000 50000"]
 
 
 def test_without_bit_rates(program: str) -> None:
-    """attempts take no time, and their lines have no time"""
+    """Without bit rates, attempts take no time, and their lines show no time."""
     lines = [*2 * ["feed 1 < send 123 0 >"], "at 0.000005", "attempt", "attempt", "attempt"]
     assert bench(program, [], ["can0"], lines) == ["tried can0 0 done - -", "tried can0 1 done - -", "idle"]
     assert loads(program, [], [*lines, "load"]) == ["0 0 0 0"]
 
 
 def recorded(program: str, rates: Rates, maker: random.Random, path: str) -> list[str]:
-    """Returns the lines of the record of a run in which frames of two interfaces fail and are sent."""
+    """Returns the lines of a record in which frames of two interfaces fail or are sent."""
     lines = []
     for _ in range(30):
         lines.append(f"fault next 1 {maker.choice(['lastbit', 'global bit', 'local crc can1', 'good'])}")
@@ -459,8 +459,8 @@ def recorded(program: str, rates: Rates, maker: random.Random, path: str) -> lis
 
 
 def test_replay_of_moments(program: str, rng: random.Random, tmp_path: pathlib.Path) -> None:
-    """a bench whose input never waits has attempts without gaps: the replay reports nothing, except for an attempt that
-    is 2 microseconds too early, or a bit rate that is too low"""
+    """If the input never waits, attempts follow without gaps, so the replay reports nothing. It does report an attempt that is 2
+    microseconds too early, or a bit rate that is too low."""
     path = str(tmp_path / "can0.rec")
     for _ in range(3):
         rates = random_rates(rng)

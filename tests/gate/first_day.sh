@@ -1,18 +1,18 @@
 #!/bin/sh
-# The steps of a newcomer on the first day, on a fresh minimal Debian 12 or 13, as the documents print it:
-# tests/gate/first_day.sh ROUTE, at the top of a clone, as root. test_first_day.py runs it in such Debians. ROUTE is
-#   path   README's route: a clone, PYTHONPATH, and Debian's packages
-#   here   the same without the installation of packages, which `make check` runs in a clone
-#   venv   that of docs/PYTHON.md: a virtual environment with Debian's packages, without a network
-#   pipx   the commands of the wheel by pipx, with Debian's python-can
+# Takes the steps of a newcomer on the first day, as the documents print them. It needs a fresh minimal Debian 12 or 13.
+# Usage: tests/gate/first_day.sh ROUTE, at the top of a clone, as root; test_first_day.py runs it in such systems. ROUTE is
+#   path   the route of README: a clone, PYTHONPATH, and Debian's packages
+#   here   the same route without installing packages, which `make check` runs in a clone
+#   venv   the route of docs/PYTHON.md: a virtual environment with Debian's packages, without a network
+#   pipx   the commands of the wheel, installed by pipx, with Debian's python-can
 #   user   make install into a folder of the user
-#   pip    a virtual environment into which pip installs the package and what it needs; status 77 where it finds no packages
+#   pip    a virtual environment into which pip installs the package and its dependencies; status 77 if pip finds none
 #   check  the tests of the program, by the command of README
 set -eu
 export DEBIAN_FRONTEND=noninteractive
 python=python3
 
-# Runs the commands of a document that are given by the beginnings of their lines, each exactly as it is printed there.
+# Runs commands of a document exactly as they are printed. Each is named by the beginning of its line.
 printed() {
     document=$1
     shift
@@ -27,7 +27,7 @@ printed() {
     done
 }
 
-# Runs the command of a table of a document that begins so, exactly as it is printed there.
+# Runs a command in a table of a document exactly as it is printed. The command is named by its beginning.
 in_table() {
     line=$(grep -o "\`$2[^\`]*\`" "$1" | head -n 1 | tr -d '\`')
     [ -n "$line" ] || {
@@ -38,7 +38,7 @@ in_table() {
     eval "$line"
 }
 
-# The only block of Python with this word in a document.
+# Prints the only block of Python in a document that has this word.
 block() {
     awk -v word="$2" '/^```python$/ { text = ""; on = 1; next } /^```$/ { if (on && text ~ word) printf "%s", text; on = 0 }
         on { text = text $0 "\n" }' "$1"
@@ -50,12 +50,12 @@ install() {
     apt-get install -qq -y --no-install-recommends $1 >/dev/null
 }
 
-# The packages of a line of a document that names them.
+# Prints the packages in the line of a document that installs this package.
 packages_of() {
     sed -n "s/.*apt-get install \([^\`]*\).*/\1/p" "$1" | grep -m 1 -- "$2"
 }
 
-# The first test of README, the one of the guide, the examples, and a client of a server in another window.
+# Runs the first test of README, the test of the guide, the examples, and a client with a server in another window.
 try_package() {
     block README.md test_bus_off >test_bus_off.py
     block docs/GUIDE.md test_a_frame_that_arrives_twice >test_twice.py
@@ -88,7 +88,7 @@ try_package() {
     $python -m pytest -q -p no:cacheprovider test_bus_off.py
 }
 
-# The commands that are installed, in a folder where there is no clone.
+# Runs the installed commands in a folder that is not in a clone.
 try_commands() {
     cd /
     canbusd --version
@@ -104,14 +104,14 @@ try_commands() {
     wait $server
 }
 
-# README's first command, which needs nothing, with what it prints.
+# Runs README's first command, which needs no packages, and compares its output with the printed output.
 try_first() {
     printed README.md "./canbusd bench can0,can1 <" >first
     sed 1d first | cmp - examples/first_frame.out
     ./canbusd --help | grep "canbusd <COMMAND>\|canbusd COMMAND"
 }
 
-# The guide's record and page.
+# Makes the record and the page of the guide.
 try_page() {
     printed docs/GUIDE.md "./canbusd bench --record run.rec" "./canbusd report --names can0,can1,can2 run.rec"
     ./canbusd audit run.rec
@@ -134,7 +134,7 @@ venv)
 pipx)
     install "$(packages_of docs/PYTHON.md python3-venv) pipx"
     printed docs/PYTHON.md "make wheel"
-    # Without a network, too: pipx renews a pip of its own.
+    # Without a network, pipx takes pip from this folder, because it upgrades its own copy of pip.
     export PIP_FIND_LINKS=/usr/share/python-wheels
     in_table docs/PYTHON.md "pipx install --system-site-packages"
     export PATH="$HOME/.local/bin:$PATH"

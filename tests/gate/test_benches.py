@@ -1,5 +1,4 @@
-"""The programs of the benchmarks: the plain C programs compile without a warning, and `limit` writes the same output as
-canbusd."""
+"""The programs of the benchmarks: the plain C programs compile without a warning, and `limit` writes the same output as canbusd."""
 
 import os
 import re
@@ -17,7 +16,7 @@ pytestmark = pytest.mark.skipif(not (shutil.which("cc") and shutil.which("make")
 
 @pytest.fixture(scope="module")
 def built(request):
-    """Builds the programs; returns their folder."""
+    """Builds the programs, and returns their folder."""
 
     def build(folder):
         shutil.copytree(os.path.join(ROOT, "benches"), folder, dirs_exist_ok=True)
@@ -27,7 +26,7 @@ def built(request):
     return made_once(request, "benches", build)
 
 
-# The C programs have scripts, but no fault rules and no bit rates.
+# The C programs support scripts, but no fault rules and no bit rates.
 @pytest.mark.parametrize("name", sorted({*examples()} - {"one_goes_bus_off", "response_times"}))
 def test_examples(built, name):
     with open(os.path.join(ROOT, "examples", f"{name}.bench"), encoding="utf-8") as file:
@@ -40,6 +39,6 @@ def test_examples(built, name):
 
 @pytest.mark.slow
 def test_the_server_and_its_client(built):
-    """the client finds each deliberate fault of a server, and none in a correct server"""
+    """The client finds each deliberate bug of a server, and no bug in a correct server."""
     done = subprocess.run([built / "serve_test.py"], capture_output=True, text=True, check=False)
     assert done.returncode == 0, done.stdout + done.stderr

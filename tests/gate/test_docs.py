@@ -1,8 +1,8 @@
-"""The documents as a newcomer would try them: every link, and the commands of README, guide and manual page exactly
-as written.
+"""The documents, as a newcomer would try them: every link, and the commands of README, the guide and the manual page exactly as
+written.
 
-The commands run in a clone of the last commit, without the command rt on the PATH. If CANBUSD names a program, the
-clone uses this program in place of its own.
+The commands run in a clone of the last commit, without the command rt on the PATH. If CANBUSD names a program, the clone uses this
+program in place of its own.
 """
 
 import contextlib
@@ -20,14 +20,14 @@ import pytest
 
 from serving import ROOT, WAIT, come_true
 
-# Commands of README that run until they are ended.
+# These commands of README run until Ctrl-C ends them.
 ENDLESS = ("./canbusd serve", "./canbusd-run candump", "./canbusd dump", "./canbusd watch")
-# Commands that need python-can.
+# These commands need python-can.
 PACKAGE = ("./canbusd dump", "./canbusd watch")
 
 
 class Clone:
-    """A clone of the last commit, and the actions of a newcomer in it."""
+    """A clone of the last commit, with the actions that a newcomer takes in it."""
 
     def __init__(self, folder):
         self.folder = str(folder)
@@ -36,13 +36,13 @@ class Clone:
             "HOME": "/nonexistent",
             "LC_ALL": "C.UTF-8",
             "PYTHONDONTWRITEBYTECODE": "1",
-            # A pytest in the clone removes only its own old folders, and not those of other runs.
+            # A pytest in the clone keeps its folders here, so it removes no folders of other runs.
             "PYTEST_DEBUG_TEMPROOT": os.path.dirname(self.folder),
         }
         subprocess.run(["git", "clone", "-q", ROOT, self.folder], check=True)
 
     def put_program(self, path):
-        """Makes the clone use this program as the program of its sources."""
+        """Replaces the program of the clone by this one, as if it were built from the clone's sources."""
         shutil.copy(path, os.path.join(self.folder, "dist", "canbusd"))
         sources = subprocess.check_output([os.path.join(self.folder, "scripts", "program"), "sources"], text=True)
         with open(path, "rb") as file:
@@ -55,14 +55,14 @@ class Clone:
             return file.read()
 
     def blocks(self, name):
-        """Returns the blocks of code in a document: runs of lines indented by four spaces, after an empty line."""
+        """Returns the blocks of code in a document: lines after an empty line that are indented by four spaces."""
         return [
             [line[4:] for line in block.splitlines()]
             for block in re.findall(r"(?:(?<=\n\n)|\A)((?:    .*\n)+)", self.read(name))
         ]
 
     def anchors(self, name):
-        """Returns the anchors of a document's headings, by GitHub's rules."""
+        """Returns the anchors of a document's headings, as GitHub makes them."""
         headings = re.findall(r"^#+ (.*)$", self.read(name), re.M)
         return {re.sub(r"[^\w\- ]", "", heading.lower()).replace(" ", "-") for heading in headings}
 
@@ -86,8 +86,7 @@ class Clone:
 
     @contextlib.contextmanager
     def running(self, command, says=True):
-        """A command that runs until Ctrl-C ends it, with its output; if the command prints a line, the block starts
-        after that."""
+        """A command that runs until Ctrl-C ends it, with its output. If `says`, the block starts after the first line of output."""
         with tempfile.TemporaryFile("w+") as output:
             child = subprocess.Popen(
                 ["bash", "-c", command],
@@ -112,7 +111,7 @@ class Clone:
 
 
 def needs_port(number):
-    """Skips a test whose commands listen on this port, if it is in use."""
+    """Skips a test if the port on which its commands listen is in use."""
     with socket.socket() as one:
         one.setsockopt(socket.SOL_SOCKET, socket.SO_REUSEADDR, 1)
         try:
@@ -131,13 +130,13 @@ def clone(tmp_path):
 
 @pytest.fixture
 def python_can(clone):
-    """Skips tests that use the package with python-can if that is missing."""
+    """Skips tests of the package if python-can is not installed."""
     if not clone.has_python_can():
         pytest.skip("python-can and pytest are not installed")
 
 
 def test_links(clone):
-    """each link of each document leads to a file, and to a heading if the link names one"""
+    """Each link in a document leads to an existing file. If the link names a heading, the file has that heading."""
     documents = [
         os.path.relpath(path, clone.folder)
         for path in glob.glob(os.path.join(clone.folder, "**", "*.md"), recursive=True)
@@ -153,7 +152,7 @@ def test_links(clone):
 
 
 def test_files_that_are_named(clone):
-    """each path of the repository that a document names exists"""
+    """Each path of the repository that a document names exists."""
     for name in [
         "README.md",
         "canbusd.1",
@@ -167,7 +166,7 @@ def test_files_that_are_named(clone):
 
 
 def test_commands_of_readme(clone, fixed_ports):
-    """each command works, in order; the commands that run until Ctrl-C run together"""
+    """Each command works, in the order of the document. Commands that run until Ctrl-C run together."""
     needs_port(29536)
     needs_port(8029)
     server = None
@@ -180,7 +179,7 @@ def test_commands_of_readme(clone, fixed_ports):
             if line.startswith("./canbusd-run") and not shutil.which(line.split()[1], path=clone.environment["PATH"]):
                 continue
             if line.startswith(ENDLESS):
-                # A dump writes nothing before frames come.
+                # A dump writes nothing before the first frame.
                 child, _ = endless.enter_context(clone.running(line, says="dump" not in line))
                 server = server or child
             else:
@@ -190,8 +189,8 @@ def test_commands_of_readme(clone, fixed_ports):
 
 
 def test_what_readme_says_that_is_printed(clone):
-    """its first command, which needs nothing, prints the block after it; the second block equals the script in the
-    repository"""
+    """The first command of README prints the block after it, and needs no packages. The second block equals the script in the
+    repository."""
     first, printed, second = clone.blocks("README.md")[:3]
     assert clone.shell(f"env -i PATH=/usr/bin:/bin {first[0]}") == (0, "\n".join([*printed, ""]))
     assert len(first) == 1 and os.access(os.path.join(clone.folder, second[0]), os.X_OK)
@@ -201,7 +200,7 @@ def test_what_readme_says_that_is_printed(clone):
 
 
 def test_the_test_of_readme(clone, python_can):
-    """the test passes, and fails without its faults"""
+    """README's test passes, and it fails without its faults."""
     code = re.search(r"^```python\n(.*?)^```$", clone.read("README.md"), re.M | re.S)[1]
     commands = next(block for block in clone.blocks("README.md") if "test_bus_off.py" in block[-1])
     for text, passes in ((code, True), (code.replace('canbusd.bus_off("ecu")', "pass"), False)):
@@ -212,7 +211,7 @@ def test_the_test_of_readme(clone, python_can):
 
 
 def test_examples_of_the_guide(clone):
-    """each command works on its examples, and prints the shown output"""
+    """Each command works on the examples of the repository, and prints the output in the guide."""
     found = clone.blocks("docs/GUIDE.md")
     tried = set()
     for k, block in enumerate(found):
@@ -235,7 +234,7 @@ def test_examples_of_the_guide(clone):
 
 
 def test_dialogues_of_the_guide(clone):
-    """in the blocks with a prompt, except those with a server, each command prints the shown output"""
+    """Each command after a prompt prints the output in the guide. Blocks with a server are left out."""
     with open(os.path.join(clone.folder, "my.script"), "w", encoding="ascii") as file:
         file.write("0 good\n5 local crc can2\n")
     tried = 0
@@ -244,13 +243,13 @@ def test_dialogues_of_the_guide(clone):
         if not text.startswith("$ ") or re.search("serve|logs/|pytest|watch", text):
             continue
         for command, wanted in re.findall(r"^\$ (.*)\n((?:(?!\$ ).*\n)*)", text, re.M):
-            # A file that no command has written is the reader's.
+            # If no command has written this file, the reader is supposed to write it.
             path = os.path.join(clone.folder, command.split()[1])
             if command.startswith("cat ") and not os.path.exists(path):
                 with open(path, "w", encoding="ascii") as file:
                     file.write(wanted)
             written = clone.shell(command)[1]
-            # The block omits lines that the bench wrote before it found a fault.
+            # The block leaves out what the bench wrote before the fault.
             assert written == wanted or (
                 wanted.startswith("canbusd: ") and written.endswith(wanted)
             ), f"{command}: {written}"
@@ -259,7 +258,7 @@ def test_dialogues_of_the_guide(clone):
 
 
 def test_commands_of_the_package(clone, python_can, fixed_ports):
-    """in the guide's commands, a dump prints the frames of a send, and a status has the interfaces"""
+    """With the guide's commands, a dump prints the frames that are sent, and a status shows the interfaces."""
     needs_port(29536)
     dump, send, status = next(
         block for block in clone.blocks("docs/GUIDE.md") if any(" dump " in line for line in block)
@@ -278,7 +277,7 @@ def test_commands_of_the_package(clone, python_can, fixed_ports):
 
 
 def test_examples_of_the_manual_page(clone):
-    """the run and its audit work, and mandoc or man finds no fault in the page"""
+    """The run and its audit work as shown, and mandoc or man finds no fault in the page."""
     page = clone.read("canbusd.1")
     examples = [
         block.replace("\\e", "\\").replace("\\-", "-")
@@ -299,7 +298,7 @@ def test_examples_of_the_manual_page(clone):
 
 
 RAW = "feed 1 < open can0 >< rawmode >\n"
-# For each refusal of the manual page: options of the bench, and lines that end with this refusal in a run on can0,can1.
+# The refusals in the manual page. Each has options of the bench, and lines whose last reply on can0,can1 is this refusal.
 REFUSED = {
     "empty message": ("", "feed 1 < >"),
     "message too long": ("", f"feed 1 < echo{' ' * 1020}>"),
@@ -323,12 +322,12 @@ REFUSED = {
     "bad rule": ("", RAW + "feed 1 < fault next 0 good >"),
     "too many rules": ("", RAW + "feed 1 " + "< fault always good >" * 65),
 }
-# A server sends the first one to a 65th client, and nobody can provoke the other.
+# A server sends the first of these only to its 65th client. No client can provoke the second one.
 NOT_TRIED = {"too many sessions", "no memory"}
 
 
 def last_reply(clone, options, lines):
-    """Returns the last line of a run's output on can0,can1, in which each attempt fails."""
+    """Returns the last line of output for these lines on can0,can1. Every attempt fails."""
     with open(os.path.join(clone.folder, "all.script"), "w", encoding="ascii") as file:
         file.write("".join(f"{number} global bit\n" for number in range(32)))
     with open(os.path.join(clone.folder, "refused.bench"), "w", encoding="ascii") as file:
@@ -339,7 +338,7 @@ def last_reply(clone, options, lines):
 
 
 def test_refusals_of_the_manual_page(clone):
-    """the page has each text that a client can provoke, and no other, and the number of filters in a message"""
+    """The page lists exactly the refusals that clients can provoke, and the right number of filters in a message."""
     page = clone.read("canbusd.1")
     listed = re.findall(r"^\.TP\n\\fB(.*)\\fR$", page[page.index(".SH REFUSALS") : page.index(".SH LIMITS")], re.M)
     assert sorted(listed) == sorted(REFUSED.keys() | NOT_TRIED), f"listed are {listed}"
@@ -354,7 +353,7 @@ def test_refusals_of_the_manual_page(clone):
 
 
 def test_targets_without_the_toolchain(clone):
-    """make install and uninstall work with a space in PREFIX; the other targets report the missing tools"""
+    """make install and make uninstall work even if PREFIX has a space. The other targets report the missing tools."""
     status, written = clone.shell(
         'make install PREFIX="$PWD/a place" && cd / && "$OLDPWD/a place/bin/canbusd" --version && '
         '"$OLDPWD/a place/bin/canbusd" report --help && "$OLDPWD/a place/bin/candump2bench" --help'
@@ -374,7 +373,7 @@ def test_targets_without_the_toolchain(clone):
 
 
 def test_a_changed_source(clone):
-    """./canbusd names the file, and the displayed command restores the stored program"""
+    """./canbusd names the changed file. The command that it prints restores the stored program."""
     source = "crates/can_confine/src/counters.rt"
     with open(os.path.join(clone.folder, source), "a", encoding="utf-8") as file:
         file.write("// a change\n")

@@ -1,4 +1,4 @@
-"""scripts/edits: each edit gets its right name, and only an open goal of the edited function counts as a refusal."""
+"""scripts/edits gives each edit the right verdict. Only an open goal of the edited function counts as a refusal."""
 
 import os
 import shutil
@@ -55,7 +55,7 @@ pub fn second_after(number: u8) -> u8
 }
 """
 
-# The pairs of an edit, and the expected report.
+# The text of each edit, and the expected report on it.
 EDITS = {
     "refused": ("old:     number + 1\nnew:     number", "refused: next: "),
     "overflows": ("old:     number + 1\nnew:     number + 2 - 1", "refused: next: "),
@@ -75,7 +75,7 @@ EDITS = {
 
 
 def make_repository(top):
-    """Makes a repository with the crate and the scripts, and returns its path."""
+    """Makes a repository with the crate and the scripts, and returns the path."""
     if shutil.which("rt") is None:
         pytest.skip("there is no rt: the Rattle kit is not public")
     for folder in ("scripts", "crates/toy/src", "crates/toy/wrong"):
@@ -89,7 +89,7 @@ def make_repository(top):
 
 @pytest.fixture(scope="module")
 def tried(tmp_path_factory):
-    """Returns the report on each edit of a crate, and the last line."""
+    """The finished run of scripts/edits on all edits of a crate, and the repository of that crate."""
     top = make_repository(tmp_path_factory.mktemp("edits"))
     for name, (pairs, _) in EDITS.items():
         (top / f"crates/toy/wrong/{name}.edit").write_text(f"file: src/lib.rt\n{pairs}\n", encoding="utf-8")
@@ -120,7 +120,7 @@ def test_what_is_not_refused_is_a_failure(tried):
 
 
 def test_a_refusal_is_kept(tried):
-    """the next run uses it, until a text of the crate changes"""
+    """The next run reuses a refusal until a text of the crate changes."""
     _, top = tried
     words = [top / "scripts/edits", "toy/refused"]
     environment = {**os.environ, "CANBUSD_KEPT": str(top / "kept")}
@@ -140,7 +140,7 @@ def test_a_crate_without_edits_is_named(tried):
 
 @pytest.fixture
 def upper(tmp_path):
-    """A repository with a second crate above the first, which is not built, and an edit of the second crate."""
+    """A repository with a second crate that depends on the first. The second one is not built, and has one edit."""
     top = make_repository(tmp_path / "repository")
     (top / "crates.txt").write_text("toy:\nupper: toy\n", encoding="utf-8")
     for folder in ("src", "wrong"):
@@ -152,7 +152,7 @@ def upper(tmp_path):
 
 
 def test_edits_wait_for_what_is_proved_beside_them(upper, tmp_path):
-    """a crate that is proved unchanged needs no check without its edits, so there is only one check"""
+    """A crate that is already proved is not checked again without its edit, so only one check runs."""
     log = tmp_path / "log"
     log.write_text("rt: toys proved\n", encoding="utf-8")
     environment = {**os.environ, "CANBUSD_KEPT": str(tmp_path / "kept")}

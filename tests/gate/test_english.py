@@ -1,4 +1,4 @@
-"""The documents' English, as far as a program can count it: short sentences, subjects that are nouns, and few lines."""
+"""The English of the documents, as far as a program can judge it: short sentences, subjects that are nouns, and few lines."""
 
 import os
 import re
@@ -7,13 +7,13 @@ import pytest
 
 from serving import ROOT
 
-# The most words of a sentence, on average.
+# The maximum average of words in a sentence, for each document.
 WORDS = {"README.md": 20, "docs/GUIDE.md": 20, "docs/PYTHON.md": 20, "docs/PROVED.md": 24, "docs/SECURITY.md": 20}
 WORDS.update({"docs/RECORD.md": 20, "CONTRIBUTING.md": 20, "canbusd.1": 20, "canbusd-run.1": 20})
-# The same for the documents for developers of canbusd.
+# The same maximum for the documents for developers.
 OTHERS = {"docs/ARCHITECTURE.md": 20, "docs/DECISIONS.md": 20, "CHANGELOG.md": 20, "docs/LIBRARIES-CHANGELOG.md": 20}
 LINES = 3400
-# The beginning of a sentence, or of a part of it, whose subject is a clause.
+# Matches a sentence, or a part of one, whose subject is a clause.
 HEADLESS = re.compile(r"(?:^|[:;] )(?:What|Who|Whoever|That of|Those of|Those that) (?!else)[a-z]")
 
 
@@ -44,7 +44,8 @@ def sentences(text):
 
 
 def test_counting():
-    """a paragraph has two sentences, an item one; headings, code, table rows and addresses of pictures don't count"""
+    """The paragraph has two sentences, and the item has one. Headings, code, table rows and the addresses of pictures don't count.
+    """
     text = "# What is it\n\n[One](x.md) two. Three `a b.c` four:\n\n    code\n\n- What it does, is that.\n\n| a | b |\n"
     assert sentences(text) == ["One two.", "Three `a b.c` four:", "What it does, is that."]
     assert [bool(HEADLESS.search(one)) for one in sentences(text)] == [False, False, True]
@@ -57,7 +58,7 @@ def test_counting():
 
 @pytest.mark.parametrize("name, most", {**WORDS, **OTHERS}.items())
 def test_sentences(name, most):
-    """sentences are short, and have subjects"""
+    """Sentences are short on average, and their subjects are nouns."""
     found = sentences(read(name))
     words = sum(len(one.split()) for one in found) / len(found)
     assert words <= most, f"{words:.1f} words a sentence, such as {max(found, key=len)!r}"
@@ -65,5 +66,5 @@ def test_sentences(name, most):
 
 
 def test_lines():
-    """the documents for users have few lines in all"""
+    """The documents for users stay below the maximum number of lines."""
     assert sum(len(read(name).splitlines()) for name in WORDS) <= LINES

@@ -1,8 +1,8 @@
-"""From the first line of README to a passing test: first_day.sh, beside this file, in a clone, and once by each route on a fresh
+"""From the first line of README to a passing test: first_day.sh in this folder runs in a clone, and by each route on a fresh
 minimal Debian 12 and 13.
 
-For that BASES names a folder with a debootstrap of bookworm and of trixie (debootstrap --variant=minbase); without it they are
-made. A network is needed.
+BASES names a folder with a debootstrap of bookworm and of trixie (debootstrap --variant=minbase). Without BASES, the tests make
+them. The tests need a network.
 """
 
 import os
@@ -14,13 +14,13 @@ import pytest
 from serving import program
 from test_docs import Clone, needs_port
 
-# The tests have their own file systems and processes, which end with the command.
+# Each test has its own mounts and processes, which end with its command.
 ENTER = 'mount -t proc proc "$0/proc" && mount --rbind /dev "$0/dev" && exec chroot "$0" "$@"'
 
 
 @pytest.fixture(scope="module", params=["bookworm", "trixie"])
 def base(request, tmp_path_factory):
-    """A Debian system without further packages."""
+    """A Debian system that has only its minimal packages."""
     if "BASES" in os.environ:
         return os.path.join(os.environ["BASES"], request.param)
     folder = tmp_path_factory.mktemp("base") / request.param
@@ -29,8 +29,8 @@ def base(request, tmp_path_factory):
 
 
 def test_first_day_in_a_clone(tmp_path, fixed_ports):
-    """README's commands and test work, and so do the guide's page and commands for a server, with the installed
-    packages"""
+    """The commands and the test of README work with the installed packages, and so do the page and the server commands of the
+    guide."""
     needs_port(29536)
     clone = Clone(tmp_path / "clone")
     clone.put_program(program())

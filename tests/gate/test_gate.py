@@ -1,5 +1,5 @@
-"""scripts/test: its counts, and the order of the program's tests and the proofs. Stand-ins for its parts note each
-call."""
+"""scripts/test: the counts that it prints, and the order of the program's tests and the proofs. Stand-ins for the parts note their
+calls."""
 
 import os
 import shutil
@@ -9,7 +9,7 @@ import pytest
 
 from serving import ROOT
 
-# Each stand-in notes its call, and prints the last line of its part.
+# Each stand-in notes that it was called, and prints the last line of its part.
 STAND_INS = {
     "bin/nproc": "echo ${PROCESSORS:-4}",
     "bin/rt": """
@@ -41,7 +41,8 @@ ON_DIST, ON_PROVED = "outside busy dist/canbusd", "outside busy crates/canbusd/o
 
 @pytest.fixture
 def gate(tmp_path):
-    """Runs the test command with stand-ins; returns its status, its lines, and the calls of parts other than Rattle."""
+    """A function that runs scripts/test with stand-ins. It returns the status, the output lines, and the calls of all parts but
+    Rattle."""
     for folder in ("bin", "scripts", "dist", "crates/canbusd/out"):
         (tmp_path / folder).mkdir(parents=True)
     for name, text in STAND_INS.items():
@@ -63,7 +64,7 @@ def gate(tmp_path):
 
 
 def test_early(gate):
-    """on four processors the tests of the program run during the proofs, once, with the program in dist/"""
+    """On four processors, the tests of the program run once, during the proofs, with the program in dist/."""
     status, lines, calls = gate()
     assert (status, lines[-1]) == (0, "44 passed, 0 failed, 6 skipped"), lines
     assert calls == [ON_DIST, "mark", "outside quiet crates/canbusd/out/canbusd"]
@@ -71,7 +72,7 @@ def test_early(gate):
 
 @pytest.mark.parametrize("early", ["8 passed, 1 failed, 2 skipped", "Killed"])
 def test_early_ones_fail(gate, early):
-    """the tests then run again after the proofs, and only this run counts"""
+    """If the early tests fail, they run again after the proofs, and only that run counts."""
     status, lines, calls = gate(EARLY=early)
     assert (status, lines[-1]) == (0, "44 passed, 0 failed, 6 skipped"), lines
     assert calls[:3] == [ON_DIST, "mark", ON_PROVED] and early in lines
@@ -79,7 +80,7 @@ def test_early_ones_fail(gate, early):
 
 @pytest.mark.parametrize("env", [{"PROCESSORS": "3"}, {"DIST": "3", "COMPARED": "3", "LIBRARY": "3"}])
 def test_none_early(gate, env, tmp_path):
-    """with fewer processors, or another program in dist/, the tests run after the proofs"""
+    """With fewer than four processors, or if dist/ has another program, the tests run after the proofs."""
     (tmp_path / "wait").unlink()
     status, lines, calls = gate(**env)
     skipped = 8 if "COMPARED" in env else 6
@@ -96,13 +97,13 @@ def test_none_early(gate, env, tmp_path):
     ],
 )
 def test_one_part(gate, part, last, calls):
-    """only the Rattle part runs, or only the part that needs no kit"""
+    """Each part can run by itself: the Rattle part, or the part that needs no kit."""
     assert gate(part) == (0, [last], calls)
 
 
 @pytest.mark.parametrize("env", [{"PROVED": "6 passed, 1 failed"}, {"COMPARED": "1"}, {"LIBRARY": "1"}])
 def test_proofs_fail(gate, env):
-    """the whole command fails too, and the program is not marked as that of these sources"""
+    """If a proof fails, the whole command fails, and the program is not marked as the one of these sources."""
     status, lines, calls = gate(**env)
     assert (status, lines[-1]) == (1, "43 passed, 1 failed, 6 skipped"), lines
     assert "mark" not in calls

@@ -1,4 +1,4 @@
-"""The helpers of these tests: a run without a program, waits with an end, threads at rest, tests for several processes."""
+"""The helpers of the tests: runs without a program, waits with a timeout, threads at rest, and tests in several processes."""
 
 import os
 import shutil
@@ -15,7 +15,7 @@ from serving import ROOT, all_sleep, come_true, join, line_of, turns
 
 
 def run_in(folder, **more):
-    """Returns the status and the output of a test in this copy of the repository, within a minute."""
+    """Runs one test in this copy of the repository, for at most a minute. Returns the status and the output."""
     environment = {name: value for name, value in os.environ.items() if name != "CANBUSD"}
     done = subprocess.run(
         [sys.executable, "-m", "pytest", "-q", os.path.join(folder, "tests", "bench", "test_bench_dialogue.py")],
@@ -29,7 +29,7 @@ def run_in(folder, **more):
 
 
 def test_no_program_of_these_sources(tmp_path):
-    """no test is run, nothing is built, and a message shows the remedy"""
+    """Without a program of these sources, no test runs, nothing is built, and a message shows how to build it."""
     for name in ("tests", "scripts", "python"):
         shutil.copytree(os.path.join(ROOT, name), tmp_path / name)
     shutil.copy(os.path.join(ROOT, "pytest.ini"), tmp_path)
@@ -57,7 +57,7 @@ def test_no_program_of_that_name():
     ],
 )
 def test_no_variable_has_to_be_set(folder, tests):
-    """this holds wherever pytest is called"""
+    """Tests run without any environment variables, from whichever folder pytest is called."""
     variables = ("CANBUSD", "CANBUSD_RUN", "PYTHONPATH", "PYTEST_ADDOPTS")
     done = subprocess.run(
         [sys.executable, "-m", "pytest", "-q", "-p", "no:cacheprovider", *tests],
@@ -72,7 +72,7 @@ def test_no_variable_has_to_be_set(folder, tests):
 
 
 def test_turns():
-    """turns continue until the loop is left, and fail when time is over"""
+    """turns() continues until the loop is left. When the time is over, it fails."""
     begin = time.monotonic()
     for count, _ in enumerate(turns("three")):
         if count == 3:
@@ -101,7 +101,7 @@ def test_join():
 
 
 def test_all_sleep():
-    """a process that waits for input sleeps, a process that counts does not, and an ended process counts as asleep"""
+    """A process that waits for input counts as asleep, and so does an ended one. A process that is counting does not."""
     waiting = subprocess.Popen(["cat"], stdin=subprocess.PIPE, stdout=subprocess.DEVNULL)
     counts = "print('counting', flush=True)\nwhile True: pass"
     counting = subprocess.Popen([sys.executable, "-c", counts], stdout=subprocess.PIPE, text=True)
@@ -118,7 +118,7 @@ def test_all_sleep():
 
 
 class Process:
-    """One that runs tests, as pytest-xdist sees it."""
+    """A stand-in for a worker process of pytest-xdist."""
 
     def __init__(self):
         self.given, self.shutting_down, self.gateway = [], False, types.SimpleNamespace(id="")
@@ -132,7 +132,7 @@ class Process:
 
 @pytest.mark.parametrize("sizes", [[1], [3, 1, 1], [100, 1, 60], [1] * 50, [16], [500, 2, 500]])
 def test_few_at_a_time(sizes):
-    """each test goes to one process, at most so many of a file at once, and each process is ended"""
+    """Each test goes to one process, with a limit of tests from one file at a time. Each process is ended."""
     pytest.importorskip("xdist", reason="no pytest-xdist (python3-pytest-xdist)")
     values = {"dist": "load", "tx": ["popen"] * 3}
     scheduler = pytest_xdist_make_scheduler(types.SimpleNamespace(getvalue=values.get), None)
@@ -145,7 +145,7 @@ def test_few_at_a_time(sizes):
     scheduler.schedule()
     for _ in range(len(tests)):
         for process, places in scheduler.node2pending.items():
-            # One that knows no next test runs its last one when it is to end.
+            # A worker needs a next test before it runs its last one, unless it is shutting down.
             assert len(places) > 1 or process.shutting_down
             if places:
                 scheduler.mark_test_complete(process, places[0], 1)

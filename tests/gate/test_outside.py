@@ -1,4 +1,4 @@
-"""scripts/outside: how it counts tests, what it tries again, and which skips it takes for failures."""
+"""scripts/outside: how it counts tests, which tests it repeats, and which skips it counts as failures."""
 
 import importlib.machinery
 import importlib.util
@@ -13,7 +13,7 @@ from serving import ROOT
 
 SCRIPT = os.path.join(ROOT, "scripts", "outside")
 
-# Three tests pass, two fail, and one is skipped.
+# A test file with three tests that pass, two that fail, and one that is skipped.
 SUITE = """
 import pytest
 
@@ -35,7 +35,8 @@ def test_fails_in_the_end(broken):
 def test_is_skipped():
     pytest.skip("it rains")
 """
-# A test passes at once, one in its third try, and one never; each writes that it was tried.
+# A test file with a test that passes at once, one that passes at the third try, and one that never passes. Each test notes its
+# tries.
 TRIED = """
 import pytest
 
@@ -61,7 +62,7 @@ INI = "[pytest]\nmarkers =\n    quiet: q\n    slow: s\n    sanitized: z\n"
 
 @pytest.fixture(scope="module")
 def outside():
-    """The script as a module."""
+    """The script, loaded as a module."""
     loader = importlib.machinery.SourceFileLoader("outside", SCRIPT)
     module = importlib.util.module_from_spec(importlib.util.spec_from_loader("outside", loader))
     sys.modules["outside"] = module
@@ -90,13 +91,13 @@ def test_results(outside, tmp_path):
 
 @pytest.mark.parametrize("text", ["import nothing_of_this_name\n", "import os\nos._exit(0)\n", "x = (\n"])
 def test_a_run_that_breaks(outside, tmp_path, text):
-    """one that ends before it has counted its tests has failed"""
+    """A run that ends before it has counted its tests has failed."""
     results, _ = suite(outside, tmp_path, text).run()
     assert results and {*results.values()} == {"failed"}
 
 
 def test_nothing_runs(outside, tmp_path, monkeypatch):
-    """a part without tests has failed, unless it has none for a quiet machine"""
+    """A part without tests has failed, but the quiet part may have none."""
     monkeypatch.setitem(outside.ROOMS, "bench", ("test_some.py",))
     monkeypatch.setattr(outside, "JOBS", "2")
     empty = suite(outside, tmp_path, "")
@@ -105,7 +106,7 @@ def test_nothing_runs(outside, tmp_path, monkeypatch):
 
 
 def test_without_what_may_be_missing(outside, tmp_path, monkeypatch):
-    """no pytest-xdist: the tests run one after the other; no tool: its part is skipped"""
+    """Without pytest-xdist, tests run one after the other. If a tool is missing, its part is skipped."""
     monkeypatch.setattr(outside, "has_module", lambda name: False)
     monkeypatch.setitem(outside.ROOMS, "bench", ("test_some.py",))
     text = "def test_one(request):\n    assert not hasattr(request.config, 'workerinput')\n"
@@ -123,7 +124,7 @@ def test_a_run_that_hangs(outside, tmp_path, monkeypatch):
 
 
 def test_a_test_that_hangs(outside, tmp_path):
-    """it fails after its seconds, and those after it run"""
+    """A test that hangs fails after its timeout, and the next tests run."""
     pytest.importorskip("pytest_timeout", reason="no pytest-timeout (python3-pytest-timeout)")
     assert f"--timeout={outside.LONGEST_TEST}" in outside.pytest_suite().words
     text = "import time\ndef test_hangs():\n    time.sleep(1000)\ndef test_goes_on():\n    pass\n"
@@ -132,7 +133,7 @@ def test_a_test_that_hangs(outside, tmp_path):
 
 
 def test_what_fails_is_tried_again(outside, tmp_path, monkeypatch, capsys):
-    """alone, and each try is shown"""
+    """A failed test is repeated by itself, and each try is shown."""
     monkeypatch.setitem(outside.ROOMS, "bench", ("test_some.py",))
     results = outside.on_a_quiet_machine(suite(outside, tmp_path, TRIED), ["bench"], "")
     wanted = {"test_at_once": "passed", "test_late": "passed", "test_never": "failed"}
@@ -148,7 +149,7 @@ def test_what_fails_is_tried_again(outside, tmp_path, monkeypatch, capsys):
 
 
 def test_skips(outside, monkeypatch, capsys):
-    """each is listed; where no other may be skipped, one that no line allows has failed"""
+    """Each skip is listed. If all skips have to be allowed, a skip without a line in the list counts as a failure."""
     monkeypatch.setattr(outside, "may_be_skipped", lambda: ["tests/bench/test_a.py: it rains"])
     results = {
         "tests/bench/test_a.py::test_1": "passed",
@@ -185,7 +186,7 @@ def test_the_part_of_a_test(outside, name, part):
 
 
 def test_both_parts_of_a_folder(outside):
-    """together they are one run; one of them leaves out what the other has"""
+    """Both parts of a folder are one run. If only one part is chosen, the tests of the other part are left out."""
     both, each = outside.groups_of(["canrun", "sanitizers"]), outside.groups_of(["bench", "sanitizers"])
     assert (both, each) == ([["canrun", "sanitizers"]], [["bench"], ["sanitizers"]])
     marks = [outside.tests_of(parts, "quiet")[1] for parts in (*both, *each)]
@@ -199,7 +200,7 @@ def test_each_line_that_allows_a_skip_names_a_test_file(outside):
 
 
 def test_each_test_is_of_one_part(outside):
-    """no folder of tests is left out, and none is named that is not there"""
+    """Each folder with tests belongs to a part, and each folder of a part exists."""
     places = {path for paths in outside.ROOMS.values() for path in paths}
     assert all(os.path.isdir(os.path.join(ROOT, place)) for place in places)
     with_tests = {
@@ -208,7 +209,7 @@ def test_each_test_is_of_one_part(outside):
         for folder, _, names in os.walk(os.path.join(ROOT, top))
         if any(re.fullmatch(r"test_.*\.py", name) for name in names)
     }
-    # These are tried by tests of the package and of canbusd-run.
+    # Tests of the package and of canbusd-run run these folders.
     others = {f"examples/{name}" for name in ("c", "car", "recipes", "sweep", "virtual_ecu")}
     assert with_tests - others == places
 

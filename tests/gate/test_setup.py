@@ -1,5 +1,5 @@
-"""scripts/setup: the packages that it installs, and its message without permission. Stand-ins for Debian's commands
-note their calls."""
+"""scripts/setup: the packages that it installs, and its message if it lacks permission. Stand-ins for Debian's commands note their
+calls."""
 
 import os
 import shutil
@@ -10,7 +10,7 @@ from commands import call
 from serving import ROOT
 
 SETUP = os.path.join(ROOT, "scripts", "setup")
-# A package is missing while its file exists.
+# In these stand-ins a package is missing as long as its file exists.
 COMMANDS = {
     "dpkg-query": '[ -e "$HOME/missing/$4" ] || echo installed\n',
     "id": "cat $HOME/user\n",
@@ -21,7 +21,7 @@ case "$*" in *" install "*) for word; do rm -f "$HOME/missing/$word"; done ;; es
 
 
 class Machine:
-    """A folder with the commands of a Debian system that lacks some packages."""
+    """A folder with the commands of a Debian system on which some packages are missing."""
 
     def __init__(self, folder, missing, user=0, without=()):
         self.folder = folder

@@ -1,7 +1,8 @@
-"""The cases of tests/bench: benches as texts.
+"""The cases of tests/bench, which describe benches as text.
 
-Each file has cases: `$` with the words of the command line, `@` lines of the script that they name, `<` lines of the input, of
-which one after `<~` lacks its LF, and `>` lines of the output. A line that begins with `#` is a remark."""
+Each file has several cases. A line with `$` has the arguments of the command, `@` a line of the script that they name, `<` a line
+of input, and `>` a line of output. A line of input after `<~` has no LF. A line that begins with `#` is a comment.
+"""
 
 import glob
 import os
@@ -12,7 +13,7 @@ from serving import ROOT
 
 
 class Case:
-    """A command line with its script, its input and what is written."""
+    """The arguments of a command, with its script, its input and its expected output."""
 
     def __init__(self, words):
         self.words, self.script, self.input, self.output = words.split(" "), "", "", ""

@@ -1,4 +1,4 @@
-"""Commands that are run, and the records of the examples."""
+"""Functions that run commands, and the records of the examples."""
 
 import contextlib
 import os
@@ -12,7 +12,7 @@ from serving import ROOT, program
 
 BROWSER = next(filter(None, map(shutil.which, ("chromium", "chromium-browser", "google-chrome"))), None)
 
-# Two sessions of a bench in raw mode, one on each of the first two interfaces, and what they write.
+# Input that starts two sessions in raw mode, one on each of the first two interfaces, and the output for it.
 TWO_SESSIONS = """session 1
 session 2
 feed 1 < open can0 >< rawmode >
@@ -26,7 +26,7 @@ TWO_STARTED = """1 < hi >
 
 
 def call(*words, **more):
-    """A command's status, standard output and standard error."""
+    """Runs a command, and returns its status, standard output and standard error."""
     done = subprocess.run(
         words, capture_output=True, text=True, timeout=120, check=False, **{"stdin": subprocess.DEVNULL, **more}
     )
@@ -34,12 +34,12 @@ def call(*words, **more):
 
 
 def run_line(line, text="", **more):
-    """The status, the output and the errors of the program with the words of a line and this input."""
+    """Runs the program with the arguments in a line and this input. Returns the status, the output and the errors."""
     return call(program(), *line.split(), stdin=None, input=text, **more)
 
 
 def run_bytes(line, text):
-    """The same, where each read of the input gives one byte."""
+    """Does the same as run_line, but each read of the input gives only one byte."""
     ours, theirs = socket.socketpair(socket.AF_UNIX, socket.SOCK_SEQPACKET)
     words = [program(), *line.split()]
     with subprocess.Popen(words, stdin=theirs, stdout=subprocess.PIPE, stderr=subprocess.PIPE, text=True) as running:
@@ -52,20 +52,20 @@ def run_bytes(line, text):
 
 
 def send_bytes(stream, text):
-    """Sends a byte a packet, as far as somebody reads."""
+    """Sends each byte in a packet of its own, until the reader closes the stream."""
     with stream, contextlib.suppress(BrokenPipeError, ConnectionResetError):
         for place in range(len(text)):
             stream.send(text[place : place + 1])
 
 
 def is_clean(fault):
-    """Whether a fault is reported in one line, without a traceback."""
+    """Returns whether an error is reported in one line, without a traceback."""
     status, written, errors = fault
     return status == 1 and written == "" and re.fullmatch(r"(?:canbusd report|candump2bench): [^\n]+\n", errors)
 
 
 def example(name, folder):
-    """The record of an example of the guide."""
+    """Makes the record of an example of the guide, and returns its path."""
     bench, record = os.path.join(ROOT, "examples", f"{name}.bench"), os.path.join(folder, f"{name}.rec")
     with open(bench, encoding="utf-8") as text:
         *options, bus = re.search(r"\./canbusd bench (.+) < ", text.read())[1].split()
@@ -76,7 +76,7 @@ def example(name, folder):
 
 
 def examples():
-    """The names of the examples."""
+    """Returns the names of the examples."""
     return sorted(
         name[: -len(".bench")] for name in os.listdir(os.path.join(ROOT, "examples")) if name.endswith(".bench")
     )

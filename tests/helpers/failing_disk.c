@@ -1,9 +1,10 @@
-/* Refuses a program's disk calls (LD_PRELOAD), as test_long_runs.py says.
+/* Lets disk calls of a program fail (LD_PRELOAD), as test_long_runs.py needs it.
  *
- * DISK names a file of two numbers of 64 bits for each call, which both share: how often the program has made it, and
- * how often it may. Further calls fail with EIO. The calls are those that write to a plain file, wait until the disk
- * has what was written, and cut a file. Only files count that are opened to append, so that standard error may be one
- * that is not. Where there is a number DISK_MILLIS, each of their writes takes so many milliseconds more. */
+ * DISK names a file that the test and the program share. It has two 64-bit numbers for each kind of call: how often the
+ * program has made the call, and how often it may. Further calls fail with EIO. The kinds of calls are writing to a
+ * plain file, waiting until the disk has the data, and truncating a file. Only files that are opened for appending
+ * count, so standard error may be a file that does not count. If there is a number DISK_MILLIS, each write to such a
+ * file takes that many milliseconds longer. */
 #define _GNU_SOURCE
 #include <errno.h>
 #include <fcntl.h>

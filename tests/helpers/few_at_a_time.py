@@ -1,12 +1,14 @@
-"""How pytest-xdist hands out tests. By itself it gives a process hundreds in a row, and one that has long ones ends last."""
+"""Decides how pytest-xdist hands out tests. By default it gives a process hundreds in a row, so a process with long tests ends
+last."""
 
 import itertools
 
 import pytest
 
-#: The most tests that a process gets at once. They are of one file, so few processes make what a module makes for its tests.
+#: The largest number of tests that a process gets at once. They are from one file, so that few processes have to prepare what its
+#: tests share.
 MOST = 40
-#: A process that has fewer gets more: it begins a test when it knows the next one.
+#: A process with fewer tests than this gets more, because it begins a test only when it knows the next one.
 FEWEST = 3
 
 

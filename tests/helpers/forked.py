@@ -1,7 +1,6 @@
-"""The package's commands, each in a process of its own that is a fork of the test: Python is not started again, and what the
-command needs is imported already.
+"""Runs each command of the package in a fork of the test process. This saves the start of Python and the import of modules.
 
-A test whose command has to be a program, as one that is ended or has less memory, starts `python3 -m canbusd`.
+Some tests need a separate program, because they kill the command or limit its memory. They start `python3 -m canbusd`.
 """
 
 import gc
@@ -18,12 +17,12 @@ import traceback
 from canbusd.__main__ import main
 from canbusd._words import COMMANDS, PROGRAM
 
-#: A command is ended by SIGALRM after this many seconds.
+#: After this many seconds, SIGALRM ends a command.
 LONGEST = 60
 
 
 def forked(*words, env=None, cwd=None, stdin=subprocess.DEVNULL, preexec_fn=None, longest=LONGEST):
-    """Runs `canbusd` with these words; returns its status, its output, and its errors."""
+    """Runs `canbusd` with these words, and returns its status, its output and its errors."""
     if words and words[0] in {*COMMANDS} - {*PROGRAM}:
         importlib.import_module(f"canbusd.commands.{words[0]}")
     (output, written), (errors, said) = os.pipe(), os.pipe()
@@ -49,7 +48,7 @@ def forked(*words, env=None, cwd=None, stdin=subprocess.DEVNULL, preexec_fn=None
 
 
 def read_all(*pipes):
-    """Returns the texts from these pipes after nobody can write into them any more; closes the pipes."""
+    """Reads these pipes until all their writers have closed them, then closes the pipes. Returns the texts."""
     found = {pipe: io.BytesIO() for pipe in pipes}
     with selectors.DefaultSelector() as ready:
         for pipe in pipes:
@@ -65,10 +64,10 @@ def read_all(*pipes):
 
 
 def become(begin, words):
-    """Turns this process into a command with these words, and ends it."""
+    """Runs a command with these words in this process, and then exits."""
     status = 1
     try:
-        # The fork still uses objects that count as garbage here.
+        # Garbage collection is off, because the fork still uses objects that count as garbage here.
         gc.disable()
         begin()
         main(words)
@@ -85,7 +84,7 @@ def become(begin, words):
 
 
 def take_streams(*streams):
-    """Makes these files, or their descriptors, the standard streams."""
+    """Makes these files or file descriptors the standard streams."""
     for number, stream in enumerate(streams):
         os.dup2(stream if isinstance(stream, int) else stream.fileno(), number)
     sys.stdin, sys.stdout = open(0, closefd=False), open(1, "w", closefd=False)
@@ -99,7 +98,7 @@ def take_environment(env):
 
 
 def status_of(end):
-    """Returns the status of a process that ends with this; a text is written."""
+    """Returns the exit status for this SystemExit. Its text, if any, is written to standard error."""
     if isinstance(end.code, str):
         print(end.code, file=sys.stderr)
         return 1

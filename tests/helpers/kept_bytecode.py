@@ -1,5 +1,5 @@
-"""The bytecode folder of a pytest process: the folder in TESTS_BYTECODE, from which others read, or none. Programs that
-the tests start do not have this folder."""
+"""Sets the bytecode folder of a pytest process: the folder in TESTS_BYTECODE, which other processes read, or none. Programs that
+the tests start do not use this folder."""
 
 import os
 import sys

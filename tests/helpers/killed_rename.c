@@ -1,5 +1,5 @@
-/* Kills a program before it gives a file another name (LD_PRELOAD), as test_run_faults.py says: before the rename whose
- * number, from 1, RENAME has. */
+/* Kills a program just before it renames a file (LD_PRELOAD), as test_run_faults.py needs it. RENAME is the number of
+ * that rename, counted from 1. */
 #include <signal.h>
 #include <stdio.h>
 #include <stdlib.h>

@@ -1,5 +1,4 @@
-"""Things that take long to make for tests: they are made once in a run of pytest, even if several processes run the
-tests."""
+"""Folders that take long to make: each is made once in a run of pytest, even if several processes run the tests."""
 
 import fcntl
 import os
@@ -7,11 +6,11 @@ import shutil
 
 
 def made_once(request, name, make):
-    """Returns the folder with this name, which `make` fills for the first test that asks for it. No test changes it
-    afterwards."""
+    """Returns the folder with this name. The first test that asks for the folder fills it by `make`, and later tests do not change
+    it."""
     shared = request.getfixturevalue("tmp_path_factory").getbasetemp()
     if hasattr(request.config, "workerinput"):
-        # Each process of pytest-xdist has its own folder in the folder of the run.
+        # With pytest-xdist, each process has its own folder within the folder of the run.
         shared = shared.parent
     folder = shared / f"made-{name}"
     with open(f"{folder}.lock", "w", encoding="ascii") as lock:

@@ -1,4 +1,4 @@
-/* Notes how many bytes a program hands to each send (LD_PRELOAD), as test_serve.py says: a line with that number, at
+/* Notes the number of bytes in each send of a program (LD_PRELOAD), as test_serve.py needs it. Each number is a line at
  * the end of the file that SENDS names. */
 #include <fcntl.h>
 #include <stdio.h>

@@ -1,5 +1,6 @@
-// Prints what the page of a run has for frames: `node page_bits.js BITS.js < FRAMES`, where a line has a frame and others that
-// compete with it. For each it prints the frame's bits as `canbusd bits` does, without their number.
+// Prints the bits of frames as the page of a run shows them: `node page_bits.js BITS.js < FRAMES`. A line of input has
+// a frame, and then the frames that compete with it. The output for each line is that of `canbusd bits`, without the
+// number of bits.
 const fs = require("fs"), vm = require("vm");
 
 vm.runInThisContext(`${fs.readFileSync(process.argv[2], "utf8")}\nObject.assign(globalThis, { wireBits, silentAt });`);

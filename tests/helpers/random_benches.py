@@ -1,9 +1,9 @@
 """Random runs of the bench.
 
-Each case is a command line, an input and mostly a script of faults, made at random: buses of 1 to 16 interfaces,
-sessions that open them, every command of the protocol with good and bad words, FD frames in some cases, messages
-that are cut or too long, frames with few identifiers, so that they meet, attempts under every verdict, and now and
-then a fault of the line, of the script or of the options.
+Each case has a random command line, a random input and in most cases a script of faults. Buses have 1 to 16 interfaces, and
+sessions open them. The input has every command of the protocol with good and bad words, messages that are cut or too long, and
+attempts under every verdict. Some cases have FD frames. There are few identifiers, so that frames meet. A few cases have an error
+in a line, the script or the options.
 """
 
 import itertools
@@ -12,19 +12,19 @@ import random
 
 SCRIPT = "faults.script"
 
-# Identifiers that begin with equal bits: 048C0000 begins with the bits of 123.
+# Identifiers that begin with the same bits, such as 048C0000 and 123.
 IDENTIFIERS = [
     "123", "124", "122", "0", "7FF", "7ff", "00", "048C0000", "048c0001", "048FFFFF", "04900000", "00000123",
     "1FFFFFFF", "80000123", "848C0000",
 ]  # fmt: skip
-# Words of filters: identifiers with and without bits 29 to 31, and masks.
+# Words of filters: masks, and identifiers with and without bits 29 to 31.
 FILTER_WORDS = [
     "123", "80000123", "20000123", "A0000123", "40000123", "0", "7FF", "C00007FF", "dfffffff", "80000000",
     "1FFFFFFF", "700", "48C0000", "20000000",
 ]  # fmt: skip
 # Lengths of FD frames.
 FD_LENGTHS = [0, 1, 2, 4, 8, 12, 16, 20, 24, 32, 48, 64]
-# Messages with a fault, or that a mode does not allow.
+# Messages that are wrong, or that the mode of the session does not allow.
 FAULTY = [
     "", "send", "send 123", "send 123 1", "send 123 0 1", "send 1234 0", "send 800 0", "send A0000123 0",
     "send 123 9", "send 123 x", "send 123 00", "send g 0", "send 123 1 100", "send 123 1 g", "send 123 2 g",
@@ -36,7 +36,7 @@ FAULTY = [
     "sendfd 123 65", "sendfd 123 1 g", "fdframes", "fdframes 2", "fdframes 1 1", "fdframe", "rawmode 1", "open",
     "open can0 can1", "bcmmode", "bcmmode 1 2", "isotpmode", "controlmode", "Send 123 0", "stat",
 ]  # fmt: skip
-# Further messages, which are newer than the programs that are compared with canbusd.
+# Further messages. The programs that are compared with canbusd may be too old for them.
 NEWER = [
     "sendfdx", "sendfdx 1", "sendfdx 4 123 0", "sendfdx 01 123 0", "sendfdx 1 123 9", "sendfdx x 123 0", "fdframex",
     "load 1",
@@ -50,7 +50,7 @@ GOOD, MIXED, SEVERE = 0, 1, 2
 
 
 class Case:
-    """A command line without the program, the input, and the bytes of the script or None."""
+    """A command line without the program, the input, and the script as bytes or None."""
 
     def __init__(self, words, text, script):
         self.words, self.text, self.script = words, text, script
@@ -69,7 +69,7 @@ class Maker:
 
     def __init__(self, seed, has_newer=True):
         self.random = random.Random(seed)
-        # Whether cases use flags of FD frames, and the message `load`.
+        # Whether cases may have FD frames with flags, and the message `load`.
         self.has_newer = has_newer
         # Whether the sessions of a case send FD frames.
         self.fd = False

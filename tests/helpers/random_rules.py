@@ -1,7 +1,7 @@
-"""Random runs of the bench with rules of faults: in the script, by lines `fault RULE`, and by messages of a session.
+"""Random runs of the bench with fault rules: in the script, in lines `fault RULE`, and in messages of a session.
 
-Session 1 has opened the first interface, and only gives rules; the others send. So each line of output that begins with
-`1 <` answers a message about rules, and each that begins with `tried` or `idle` an attempt.
+Session 1 has opened the first interface and only gives rules. The other sessions send. So a line of output that begins with `1 <`
+answers a message about rules, and a line that begins with `tried` or `idle` is about an attempt.
 """
 
 import os
@@ -19,7 +19,7 @@ IDENTIFIERS = [
     "20000123:7FF", "80000123:9FFFFFFF", "A0000123:9fffffff", "40000000:40000000", "C0000123:DFFFFFFF", "0:80000000",
 ]  # fmt: skip
 VERDICTS = ["good", "lastbit", "global bit", "global form"]
-# Words that replace a word of a rule.
+# Words that may replace a word of a rule.
 WORDS = [
     "next", "always", "from", "id", "skip", "good", "lastbit", "global", "local", "bit", "crc", "form", "stuff", "0", "1",
     "00000001", "000000001", "99999999", "100000000", "-1", "+1", "1x", "123", "800", "20000000", "123:", ":123",
@@ -29,9 +29,9 @@ WORDS = [
 
 
 class Case:
-    """A command line without the program, the script, the operations of the run, and the names of the bus.
+    """A command line without the program, the script, the operations of the run, and the names of the interfaces.
 
-    An operation is a kind and its text: `attempt`, `send`, `line` with a rule, or `message`.
+    An operation is a pair of a kind and a text. Its kind is `attempt`, `send`, `line` with a rule, or `message`.
     """
 
     def __init__(self, names, words, script, operations):
@@ -81,8 +81,8 @@ class RuleMaker:
         return " ".join([*words, self.verdict(names)])
 
     def changed(self, rule):
-        """Returns a rule with one word dropped, added, moved or replaced, or one character changed; it may still be a
-        rule."""
+        """Returns a rule in which one word is dropped, added, moved or replaced, or one character is changed. The result may still
+        be a rule."""
         words = rule.split(" ")
         place = self.random.randrange(len(words))
         kind = self.random.randrange(5)
@@ -100,7 +100,7 @@ class RuleMaker:
         return " ".join(words)
 
     def spaced(self, text):
-        """Returns a message with these words, and sometimes other blanks between them."""
+        """Returns a message with these words. Some messages have other white space between the words."""
         if self.chance(0.8):
             return f" {text} "
         blanks = [" ", "  ", "\t", " \t "]
@@ -126,7 +126,7 @@ class RuleMaker:
         return "\n".join(lines) + self.random.choice(["", "\n"])
 
     def operations(self, names, attempts):
-        """Returns attempts, frames to send, and rules."""
+        """Returns random operations: attempts, frames to send, and rules."""
         found, left = [], attempts
         while left:
             kind = self.random.random()

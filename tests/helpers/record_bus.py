@@ -1,22 +1,21 @@
-"""The parts of a bus, by the rules of docs/DEFINITIONS.md: frames, sockets, interfaces, and waiting frames."""
+"""The parts of a bus, by the rules of docs/DEFINITIONS.md: frames, sockets, interfaces, and queued frames."""
 
 from collections import deque
 from typing import Optional
 
-# Bits of an identifier word (linux/can.h): an identifier with 29 bits, a remote frame, an inverted filter.
+# Bits of an identifier word (linux/can.h), for a 29-bit identifier, a remote frame and an inverted filter.
 EXTENDED, REMOTE, INVERTED = 1 << 31, 1 << 30, 1 << 29
-#: The lowest counts of an interface that is bus off, error passive, and error warning.
+#: The lowest error counts of an interface that is bus off, error passive, or error warning.
 OFF, PASSIVE, WARNING = 256, 128, 96
 
 
 def severity(count: int) -> int:
-    """Returns the severity of a count: 0 active, 1 warning, 2 passive, 3 off."""
+    """Returns the severity of an error count: 0 active, 1 warning, 2 passive, 3 off."""
     return (count >= WARNING) + (count >= PASSIVE) + (count >= OFF)
 
 
 class Frame:
-    """A data, remote or FD frame in the record's spelling, with its identifier word and the bits that arbitration
-    compares."""
+    """A data, remote or FD frame in the notation of records, with its identifier word and the bits that arbitration compares."""
 
     __slots__ = ("text", "is_fd", "word", "bits")
 
@@ -25,41 +24,40 @@ class Frame:
         number, is_extended, is_remote = int(identifier, 16), len(identifier) == 8, payload.startswith("R")
         self.text, self.is_fd = text, payload.startswith("#")
         self.word = number + is_extended * EXTENDED + is_remote * REMOTE
-        # The bits start with the identifier. After its first 11 bits come RTR and IDE, or SRR, IDE, 18 further bits and
-        # RTR. An FD frame has a dominant bit in the place of RTR.
+        # The bits begin with the identifier. Its first 11 bits are followed by RTR and IDE, or by SRR, IDE, 18 further bits and
+        # RTR. In place of RTR, an FD frame has a dominant bit.
         self.bits = f"{number:029b}{is_remote:b}" if is_extended else f"{number:011b}{is_remote:b}0"
         if is_extended:
             self.bits = f"{self.bits[:11]}11{self.bits[11:]}"
 
 
 def is_match(word: int, identifier: int, mask: int) -> bool:
-    """Returns whether an identifier word matches a filter of a raw socket (Documentation/networking/can.rst of
-    Linux)."""
+    """Returns whether an identifier word matches a filter of a raw socket (Linux, Documentation/networking/can.rst)."""
     return (word & mask == identifier & ~INVERTED & mask) is not (identifier & INVERTED != 0)
 
 
 class Socket:
-    """A raw socket: its filters, its options, and its waiting items."""
+    """A raw socket, with its filters, its options and its waiting items."""
 
     def __init__(self, number: int, iface: int, capacity: int) -> None:
         self.number, self.iface, self.capacity = number, iface, capacity
         self.closed_after: Optional[int] = None
         self.filters = [(0, 0)]
-        # By the identifier word: whether a frame passes the filters.
+        # Whether frames pass the filters, by identifier word.
         self.passed: dict[int, bool] = {}
         self.options = {"loopback": 1, "recvown": 0, "join": 0, "errmask": 0, "fd": 0}
-        # The words of a reply with each waiting item.
+        # The words of the reply that hands out each waiting item.
         self.queue: deque[list[str]] = deque()
         self.queued = self.dropped = self.taken = 0
 
     @property
     def waiting(self) -> int:
-        """The number of waiting items."""
+        """Returns the number of waiting items."""
         return len(self.queue)
 
     def passes(self, frame: Frame) -> bool:
-        """Returns whether a frame passes the filters, and an FD frame also the option for FD frames. Without a filter
-        no frame passes."""
+        """Returns whether a frame passes the filters. Without filters no frame passes. An FD frame also needs the option for FD
+        frames."""
         if frame.is_fd and not self.options["fd"]:
             return False
         found = self.passed.get(frame.word)
@@ -70,7 +68,7 @@ class Socket:
 
 
 class Pending:
-    """A frame in a transmit queue, with the number of its interface, and its part in arbitration."""
+    """A frame in a transmit queue, with its number and its socket. `contender` is the interface and the frame, for arbitration."""
 
     __slots__ = ("number", "frame", "socket", "loops_back", "contender")
 
@@ -80,40 +78,40 @@ class Pending:
 
 
 class Interface:
-    """An interface: its error counters, its transmit queue and its counts."""
+    """An interface, with its error counters, its transmit queue and its statistics."""
 
     def __init__(self) -> None:
         self.tec = self.rec = 0
         self.waiting: deque[Pending] = deque()
         self.sent = self.done = self.lost = self.refused = 0
-        # The number of attempts since the interface went bus off; None if it is not bus off.
+        # The number of attempts since bus off, or None if the interface is not bus off.
         self.attempts_off: Optional[int] = None
         self.is_down = False
 
     def is_off(self) -> bool:
-        """Whether the interface is bus off."""
+        """Returns whether the interface is bus off."""
         return self.tec >= OFF and not self.is_down
 
     def is_silent(self) -> bool:
-        """Whether the interface takes no part."""
+        """Returns whether the interface is down or bus off, and so takes no part in the traffic."""
         return self.is_down or self.is_off()
 
     def is_passive(self) -> bool:
-        """Whether the interface is error passive."""
+        """Returns whether the interface is error passive."""
         return self.state() == 2
 
     def state(self) -> int:
-        """The state of the interface: 0 active, 1 warning, 2 passive, 3 off."""
+        """Returns the state of the interface: 0 active, 1 warning, 2 passive, 3 off."""
         return severity(max(self.tec, self.rec))
 
     def restart(self) -> None:
-        """Brings the interface back from bus off, or up."""
+        """Restarts the interface after bus off, or brings it up."""
         self.tec = self.rec = 0
         self.attempts_off = None
         self.is_down = False
 
     def go_down(self) -> list[Pending]:
-        """Leaves the bus; returns the lost frames."""
+        """Takes the interface down, and returns the lost frames."""
         lost = list(self.waiting)
         self.lost += len(lost)
         self.waiting.clear()
@@ -122,9 +120,9 @@ class Interface:
         return lost
 
     def receive_error(self) -> None:
-        """Counts a fault that the interface saw as a receiver."""
+        """Counts an error that the interface saw as a receiver."""
         self.rec = min(self.rec + 1, 255)
 
     def good_reception(self) -> None:
-        """Counts a frame that the interface received."""
+        """Counts a frame that the interface received without error."""
         self.rec = 127 if self.rec > 127 else max(self.rec - 1, 0)

@@ -1,8 +1,8 @@
 """The verdict of `canbusd audit` on a record, and the output of `audit --events`, by the rules of docs/DEFINITIONS.md.
 
-This is the independent model: a second implementation of the rules, to which the tests hold the proved program. The
-model does not run the program: it compares each reply in the record with the reply by the rules, so a replay to the end
-of a record is an audit.
+This is an independent model: a second implementation of the rules, with which the tests compare the proved program. The model does
+not run the program. It compares each reply in the record with the reply by the rules, so a replay to the end of a record is an
+audit.
 """
 
 import collections
@@ -17,49 +17,48 @@ from wire_times import Rates, ending_of
 
 FIRST_LINE = "canbus events 1"
 MOST_SOCKETS = 64
-# The bytes 2 and 3 of a fault's error message frame: by the verdict at the winner, and by the local fault at the
-# interface that it hits.
+# Bytes 2 and 3 of the error message frame for a fault: at the winner by the verdict, and at the hit interface by the local fault.
 AT_THE_WINNER = {"global-bit": (0x81, 0x0A), "global-form": (0x82, 0x1B), "local": (0x81, 0x00)}
 AT_THE_HIT = {"stuff": (0x04, 0x0A), "crc": (0x00, 0x08), "form": (0x02, 0x1B)}
-# Byte 1 of a change of state, by the severity of a side: active, warning, passive.
+# Byte 1 of an error message frame for a change of state, by the severity of a counter: active, warning, passive.
 TRANSMIT_CODES, RECEIVE_CODES = (0x40, 0x08, 0x20), (0x40, 0x04, 0x10)
-#: The transmit and the receive error count of an interface.
+#: The transmit and receive error counters of an interface.
 Counts = tuple[int, int]
 
 
 @dataclass
 class Step:
-    """An attempt with a frame, a restart or a down; after an attempt that restarts interfaces comes a step for each of
-    them."""
+    """A step is an attempt with a frame, a restart or a down. If an attempt restarts interfaces, a step for each of them follows.
+    """
 
-    #: One of done, lastbit, destroyed, noack, restart and down.
+    #: The kind is done, lastbit, destroyed, noack, restart or down.
     kind: str
-    #: The number of the step's entry, and its time there.
+    #: The number of the entry that makes the step, and the timestamp in that entry.
     entry: int
     moment: str
-    #: The winner, or the interface that was restarted or went down.
+    #: The winner, or the interface that restarted or went down.
     iface: int
-    #: The number of earlier attempts with a frame, and the number of idle attempts since the last step.
+    #: The number of earlier attempts with a frame, and the number of idle attempts since the step before.
     attempt: int
     idle: int
-    #: The number of waiting frames at each interface before the step.
+    #: The number of queued frames at each interface before the step.
     waiting: list[int]
-    #: For an attempt: the number and the text of its frame, and the verdict of the script.
+    #: For an attempt only: the number and the text of its frame, and the verdict of the script.
     number: int = 0
     text: str = ""
     verdict: str = ""
-    #: The interfaces that accept the frame, that go bus off, and that see a fault only by themselves.
+    #: The interfaces that accept the frame, those that go bus off, and those that are hit by a local fault.
     accepted: Sequence[int] = ()
     off: Sequence[int] = ()
     hit: Sequence[int] = ()
-    #: The frame of each interface that takes part.
+    #: The frame of each interface that takes part in arbitration.
     contenders: list[tuple[int, Frame]] = field(default_factory=list)
-    #: The counts of each interface after the step.
+    #: The error counters of each interface after the step.
     counts: Sequence[Counts] = ()
 
 
 class Replay:
-    """The replay of a record: its steps, the effects of its entries, and its bus at the end."""
+    """The replay of a record: its steps, the effects of its entries, and the state of the bus at the end."""
 
     def __init__(self, record: RecordText) -> None:
         self.record = record
@@ -68,9 +67,9 @@ class Replay:
         self.open_sockets: list[list[Socket]] = [[] for _ in self.ifaces]
         self.frames: dict[str, Frame] = {}
         self.steps: list[Step] = []
-        #: By the step, the frames that bus off or a down removed from a transmit queue.
+        #: The frames that bus off or a down removed from a transmit queue, by step.
         self.lost: dict[int, list[Pending]] = {}
-        #: The last steps before refused sends, by the interface and the reply: `no-buffers`, `bus-off` or
+        #: The numbers of the last steps before refused sends, by the interface and the reply `no-buffers`, `bus-off` or
         #: `interface-down`.
         self.refused: dict[tuple[int, str], list[int]] = {}
         self.counts: tuple[Counts, ...] = ((0, 0),) * record.ifaces
@@ -78,8 +77,8 @@ class Replay:
         # The number of idle attempts since the last step.
         self.idle_since = 0
         self.moment = ""
-        #: The effects of the last begun step: the number of a socket, the text of an error message frame, empty for the
-        #: frame of the step, and whether there was room.
+        #: The effects of the latest step: the number of a socket, the text of an error message frame, and whether the socket had
+        #: room. The text is empty for the frame of the step.
         self.items: list[tuple[int, str, bool]] = []
         #: The number of replayed entries, and the effects of each event by the number of its entry.
         self.entries = 0
@@ -87,7 +86,7 @@ class Replay:
         self.go_on()
 
     def go_on(self) -> None:
-        """Replays the new entries of a record that is written while its run continues."""
+        """Replays the entries that have been added to a record since the last call."""
         calls = {name[3:]: getattr(self, name) for name in dir(self) if name.startswith("on_")}
         for event, reply in self.record.entries(self.entries):
             if self.entries >= self.record.limit:
@@ -102,11 +101,12 @@ class Replay:
             self.entries += 1
 
     def parts_since(self, counts: Sequence[Counts], lost: Sequence[int]) -> list[str]:
-        """Returns the effects of an entry, from the interfaces' counts and the number of lost frames before it."""
+        """Returns the effects of an entry. The arguments are the error counters and the numbers of lost frames before that entry.
+        """
         parts = [f"counts {i} {tec} {rec}" for i, (tec, rec) in enumerate(self.counts) if (tec, rec) != counts[i]]
         parts += [f"lost {i} {iface.lost - lost[i]}" for i, iface in enumerate(self.ifaces) if iface.lost != lost[i]]
         queued, dropped = "", collections.Counter[int]()
-        # The items of a socket stay in order.
+        # Sorting keeps the items of each socket in their order.
         for socket, error, has_room in sorted(self.items, key=lambda item: item[0]):
             if has_room:
                 queued += f" {socket}:{error}" if error else f" {socket}"
@@ -116,27 +116,27 @@ class Replay:
         return parts + [f"{name}{words}" for name, words in (("put", queued), ("dropped", without_room)) if words]
 
     def lines(self, first: int = 0, rates: Optional[Rates] = None) -> Iterator[str]:
-        """Yields the event lines of the entries from this number on, with bit rates also with the times of attempts."""
+        """Yields the event lines of all entries from `first` on. With bit rates, the lines have the times of attempts."""
         for entry in range(first, self.entries):
             line = self.record.lines[entry]
             took = wire_part(line, rates) if rates is not None else ""
             yield "; ".join([line, *self.parts.get(entry, ()), *filter(None, [took])])
 
     def frame(self, text: str) -> Frame:
-        """Returns the frame of this text, the same object each time."""
+        """Returns the frame with this text. Equal texts give the same object."""
         if text not in self.frames:
             self.frames[text] = Frame(text)
         return self.frames[text]
 
     def open_socket(self, number: str) -> Optional[Socket]:
-        """Returns the socket with this number, if it is open."""
+        """Returns the socket with this number if it is open, otherwise None."""
         place = int(number)
         if place < len(self.sockets):
             socket = self.sockets[place]
             return socket if socket.closed_after is None else None
         return None
 
-    # Socket calls: each returns the words of its reply.
+    # This and the following methods replay the calls of a socket. Each returns the words of the reply.
 
     def on_open(self, _entry: int, iface: str, capacity: str) -> list[str]:
         """Opens a socket."""
@@ -152,7 +152,7 @@ class Replay:
         return ["socket", str(socket.number)]
 
     def on_close(self, _entry: int, number: str) -> list[str]:
-        """Closes a socket; its waiting items stay unread."""
+        """Closes a socket; items that were not received stay unread."""
         socket = self.open_socket(number)
         if socket is None:
             return ["no-socket"]
@@ -201,7 +201,7 @@ class Replay:
         return ["number", str(iface.sent - 1)]
 
     def refuse(self, number: int, reply: str) -> list[str]:
-        """Notes a refused send."""
+        """Notes a refused send, and returns the reply."""
         self.refused.setdefault((number, reply), []).append(len(self.steps) - 1)
         return [reply]
 
@@ -216,7 +216,7 @@ class Replay:
         return socket.queue.popleft()
 
     def on_restart(self, entry: int, number: str, moment: str) -> list[str]:
-        """Restarts an interface by hand."""
+        """Restarts an interface on request."""
         if int(number) >= len(self.ifaces):
             return ["no-interface"]
         if not self.ifaces[int(number)].is_silent():
@@ -225,7 +225,7 @@ class Replay:
         return ["ok"]
 
     def on_down(self, entry: int, number: str, moment: str) -> list[str]:
-        """Takes an interface down, which posts nothing."""
+        """Takes an interface down. No socket gets an item for that."""
         if int(number) >= len(self.ifaces):
             return ["no-interface"]
         step = self.begin("down", entry, moment, int(number))
@@ -254,7 +254,7 @@ class Replay:
         return [*reply, "restarted", spelled_set(due)] if due else reply
 
     def count_attempt(self) -> list[int]:
-        """Counts an attempt for each interface that is bus off; returns the interfaces that it restarts."""
+        """Counts an attempt for each interface that is bus off, and returns the interfaces that restart after it."""
         due = []
         for number, iface in enumerate(self.ifaces):
             if iface.attempts_off is not None:
@@ -270,7 +270,7 @@ class Replay:
             self.idle += 1
             self.idle_since += 1
             return ["idle"]
-        # If the bits are equal, the interface with the lower number wins.
+        # min() returns the first of equal frames, so the interface with the lower number wins.
         winner = min(contenders, key=lambda contender: contender[1].bits)[0]
         sent = self.ifaces[winner].waiting[0]
         step = self.begin("", entry, moment, winner)
@@ -297,7 +297,7 @@ class Replay:
         ]
 
     def judge(self, step: Step, receivers: list[int]) -> None:
-        """Determines the outcome of an attempt, and changes the error counters."""
+        """Determines the outcome of an attempt, and updates the error counters."""
         winner, verdict = self.ifaces[step.iface], step.verdict.split(":")
         if len(verdict) > 1:
             named = int(verdict[1], 16)
@@ -322,7 +322,7 @@ class Replay:
         step.off = (step.iface,) if winner.is_off() else ()
 
     def leave_queue(self, step: Step) -> None:
-        """Removes a sent frame from its queue; a winner that goes bus off loses all its frames."""
+        """Removes a sent frame from its queue. If the winner goes bus off, it loses all its frames."""
         winner = self.ifaces[step.iface]
         if step.kind == "done":
             winner.waiting.popleft()
@@ -334,7 +334,7 @@ class Replay:
             winner.attempts_off = 0
 
     def post_frame(self, step: Step, sent: Pending) -> None:
-        """Posts the frame to the sockets of the interfaces that accepted it, and to the sender's by loopback."""
+        """Posts the frame to the sockets of the interfaces that accepted it, and by loopback to those of its sender."""
         looped = [step.iface] if step.kind == "done" and sent.loops_back else []
         reply = ["data", str(step.iface), str(step.number), step.text, step.moment]
         for number in sorted([*step.accepted, *looped]):
@@ -343,7 +343,7 @@ class Replay:
                     self.put(socket, reply)
 
     def post_fault(self, step: Step, number: int, is_receiver: bool) -> None:
-        """Posts an error message frame for the fault that an interface saw in the attempt, if it reports faults."""
+        """If the interface reports faults, posts an error message frame for the fault that it saw in the attempt."""
         kind, _, local = step.verdict.partition(":")[0].partition("-")
         place = None
         if not self.record.reporting >> number & 1:
@@ -362,7 +362,7 @@ class Replay:
             self.post_error(number, 0x0A0 if nobody else 0x088, (0, 0, *place, 0, 0, 0, 0))
 
     def post_state(self, number: int, before: Counts) -> None:
-        """Posts an error message frame for a change of an interface's state."""
+        """Posts an error message frame if the state of an interface has changed."""
         iface = self.ifaces[number]
         if iface.state() == severity(max(before)):
             return
@@ -376,15 +376,14 @@ class Replay:
         self.post_error(number, 0x204, (0, code, 0, 0, 0, 0, iface.tec, iface.rec))
 
     def post_error(self, number: int, error_class: int, data: Sequence[int]) -> None:
-        """Posts an error message frame to the sockets that ask for its class."""
+        """Posts an error message frame to the interface's sockets whose error mask has this class."""
         text = f"{0x20000000 | error_class:08X}#{bytes(data).hex().upper()}"
         for socket in self.open_sockets[number]:
             if socket.options["errmask"] & error_class:
                 self.put(socket, ["error", str(number), text, self.moment], text)
 
     def put(self, socket: Socket, reply: list[str], error: str = "") -> None:
-        """Posts an item to a socket, which drops it if there is no room; `error` is the text of an error message
-        frame."""
+        """Posts an item to a socket, which drops the item if the queue is full. `error` is the text of an error message frame."""
         has_room = len(socket.queue) < socket.capacity
         self.items.append((socket.number, error, has_room))
         if has_room:
@@ -401,7 +400,7 @@ class Replay:
         return Step(kind, entry, moment, iface, self.attempts, idle, waiting)
 
     def count_errors(self) -> bool:
-        """Notes the error counts of the interfaces; returns whether one has changed."""
+        """Notes the error counters of the interfaces, and returns whether any of them has changed."""
         counts = tuple((iface.tec, iface.rec) for iface in self.ifaces)
         if counts == self.counts:
             return False
@@ -409,24 +408,25 @@ class Replay:
         return True
 
     def end(self, step: Step) -> None:
-        """Adds a finished step."""
+        """Adds a step that is complete."""
         step.counts = self.counts
         self.steps.append(step)
         self.attempts += step.kind not in ("restart", "down")
 
 
 def wrong(entry: int, message: str) -> BadRecord:
-    """Returns the fault of the entry with this number, from 0."""
+    """Returns the error for the entry with this number, which counts from 0."""
     return BadRecord(f"entry {entry}: {message}", f"entry {entry}: wrong")
 
 
 def spelled_set(numbers: Sequence[int]) -> str:
-    """Returns a set of interfaces in the record's spelling."""
+    """Returns a set of interfaces in the notation of records."""
     return f"{sum(1 << number for number in numbers):04X}"
 
 
 def wire_part(line: str, rates: Rates) -> str:
-    """Returns the time of a line's attempt on the wire, and the bits of its frame; the empty text without a frame."""
+    """Returns the part of an event line with the times of its attempt on the wire and the bits of its frame. The part is empty if
+    the attempt has no frame."""
     words = line.split(" ")
     if words[0] != "attempt" or words[4] != "tried":
         return ""
@@ -437,7 +437,7 @@ def wire_part(line: str, rates: Rates) -> str:
 
 
 def events_of(data: bytes, cut: bool = False, rates: Optional[Rates] = None) -> str:
-    """Returns the events of the record in these bytes; raises BadRecord if it is not legal."""
+    """Returns the events of the record in these bytes. Raises BadRecord if the record is not legal."""
     record = parse_text(data, cut)
     replay = Replay(record)
     last = f"{'cut' if record.is_cut else 'end'} {replay.entries}"
@@ -446,7 +446,7 @@ def events_of(data: bytes, cut: bool = False, rates: Optional[Rates] = None) -> 
 
 
 def audit(data: bytes, cut: bool = False) -> str:
-    """Returns the verdict of `canbusd audit`, or of `canbusd audit --cut` with `cut`, on these bytes."""
+    """Returns the verdict of `canbusd audit` on these bytes, or of `canbusd audit --cut` if `cut` is true."""
     try:
         record = parse_text(data, cut)
         return f"ok {Replay(record).entries} entries{', then cut off' if record.is_cut else ''}"

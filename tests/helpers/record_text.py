@@ -1,4 +1,4 @@
-"""The text of a record, as docs/RECORD.md describes it: its grammar, and the bus and the entries in the text."""
+"""The text of a record, as docs/RECORD.md describes it: its grammar, and the bus and the entries that it has."""
 
 import dataclasses
 import re
@@ -8,7 +8,7 @@ from typing import Optional
 
 
 def up_to(most: int) -> str:
-    """Returns a regular expression for the numbers from 0 to `most`, at least 10, without leading zeros."""
+    """Returns a regular expression for numbers from 0 to `most` without leading zeros. `most` is at least 10."""
     digits = str(most)
     ways = [digits, "0", f"[1-9][0-9]{{0,{len(digits) - 2}}}"]
     for place, digit in enumerate(digits):
@@ -21,14 +21,14 @@ def up_to(most: int) -> str:
 IFACE, SOCKET, COUNT = up_to(15), up_to((1 << 32) - 1), up_to((1 << 64) - 1)
 SET = "[0-9A-F]{4}"
 WORD = "[0-9A-F]{8}"
-# Matches a word without bit 29.
+# Matches a word whose bit 29 is 0.
 MASK = "[014589CD][0-9A-F]{7}"
 MOMENT = r"(?:0|[1-9][0-9]{0,9})\.[0-9]{6}"
 VERDICT = f"(?:good|global-bit|global-form|lastbit|local-(?:stuff|crc|form):{SET})"
 REFUSALS = ["no-interface", "bad-capacity", "too-many-sockets", "no-socket", "bus-off", "no-buffers", "not-bus-off"]
 MOST_FILTERS = 512
 
-# Match data and remote frames; FD frames without flags, and with or without; and error message frames.
+# The patterns match data and remote frames, FD frames without flags, FD frames with or without flags, and error message frames.
 IDENTIFIER = "(?:[0-7][0-9A-F]{2}|[01][0-9A-F]{7})"
 FRAME = f"{IDENTIFIER}#(?:(?:[0-9A-F]{{2}}){{0,8}}|R[1-8]?)"
 FD_BYTES = "|".join(f"[0-9A-F]{{{2 * length}}}" for length in (*range(9), 12, 16, 20, 24, 32, 48, 64))
@@ -40,23 +40,23 @@ NUMBER = "(0|[1-9][0-9]*)"
 BUS = f"bus {NUMBER} (always|peers) ({SET}) {NUMBER} {NUMBER}"
 
 
-# The approximate number of bytes in a read.
+# The approximate number of bytes that are read at once.
 BLOCK = 1 << 20
-# The most entries of a record that is written at the end of its run, and of a record that is written during its run.
+# The largest number of entries: of a record that is written at the end of its run, and of one that is written during its run.
 MOST_ENTRIES, MOST_LIVE_ENTRIES = 1 << 24, (1 << 32) - 2
 
 
 class Version:
-    """A version of the text: the line of its bus and its limits, and the words and replies of each kind of event."""
+    """A version of the format: the line of the bus, the limits, and the words and replies of each kind of event."""
 
     def __init__(
         self, bus: str, fd: Optional[str] = None, limits: range = range(1, MOST_ENTRIES + 1), has_downs: bool = False
     ) -> None:
-        # The spelling of FD frames, if the version has any; and whether interfaces can go down.
+        # The pattern of FD frames, if the version has them, and whether interfaces can go down.
         self.bus, self.fd, self.limits, self.has_downs = re.compile(bus), fd, limits, has_downs
 
     def entries(self, restarts: bool) -> dict[str, re.Pattern[str]]:
-        """Returns the regular expressions of entries, for a bus that restarts interfaces or a bus that does not."""
+        """Returns the regular expressions of entries, by kind. They depend on whether the bus restarts interfaces."""
         frame = f"(?:{FRAME}|{self.fd})" if self.fd else FRAME
         options = "loopback|recvown|join|fd" if self.fd else "loopback|recvown|join"
         restarted = f"(?: restarted (?!0000){SET})?" if restarts else ""
@@ -80,14 +80,14 @@ class Version:
         return {kind: re.compile(line) for kind, line in spelled.items()}
 
 
-# From version 2 on, a number after the limit is the number of attempts after which interfaces restart.
+# Since version 2, the bus line ends with the number of attempts after which an interface restarts.
 VERSION_3 = Version(f"{BUS} {NUMBER}", FD_FRAME)
-# Version 5 has flags of FD frames.
+# Version 5 adds the flags of FD frames.
 VERSION_5 = Version(f"{BUS} {NUMBER}", FLAGGED_FRAME)
-# Version 6 also has interfaces that go down.
+# Version 6 adds interfaces that go down.
 VERSION_6 = Version(f"{BUS} {NUMBER}", FLAGGED_FRAME, has_downs=True)
 LONG_LIMITS = range(MOST_ENTRIES + 1, MOST_LIVE_ENTRIES + 1)
-# The versions by first line. Version 4 is only for the record of a long run, and a long run has no other version.
+# The versions by their first line. Version 4 is only for records of long runs, and these have no other version.
 VERSIONS = {
     "canbus record 1": Version(BUS),
     "canbus record 2": Version(f"{BUS} ([1-9][0-9]*)"),
@@ -99,8 +99,7 @@ VERSIONS = {
 
 
 class BadRecord(ValueError):
-    """The reason why bytes are not the record of a run; `verdict` is the verdict of `canbusd audit`, such as `line 5:
-    bad line`."""
+    """The reason why these bytes are no record of a run. `verdict` is what `canbusd audit` says, such as `line 5: bad line`."""
 
     def __init__(self, message: str, verdict: str) -> None:
         super().__init__(message)
@@ -108,41 +107,41 @@ class BadRecord(ValueError):
 
 
 def bad_line(number: int, message: str) -> BadRecord:
-    """Returns the fault of the line with this number, from 1."""
+    """Returns the error for the line with this number, which counts from 1."""
     return BadRecord(f"line {number}: {message}", f"line {number}: bad line")
 
 
 @dataclass(frozen=True)
 class RecordText:
-    """The content of a record's text: the configuration of its bus, and the lines of its entries."""
+    """The content of a record: the configuration of the bus, and the lines of the entries."""
 
     ifaces: int
-    #: Whether a silent node acknowledges each frame.
+    #: Whether a silent node acknowledges every frame.
     always: bool
-    #: The set of interfaces that report faults, bit i for interface i.
+    #: The interfaces that report faults. Bit i is for interface i.
     reporting: int
     tx_capacity: int
     limit: int
-    #: The number of the attempt after bus off that restarts an interface; 0 for no restart.
+    #: The number of attempts after bus off until an interface restarts; 0 if interfaces do not restart.
     auto_restart: int
     lines: list[str]
-    #: Whether the text ends before its line `end`.
+    #: Whether the text ends before the line `end`.
     is_cut: bool
 
     def entries(self, first: int = 0) -> Iterator[tuple[list[str], list[str]]]:
-        """Yields each entry from this number on: the words of its event, and the words of its reply."""
+        """Yields each entry from `first` on, as the words of its event and the words of its reply."""
         for number in range(first, len(self.lines)):
             event, reply = self.lines[number].split(" = ")
             yield event.split(" "), reply.split(" ")
 
 
 def parse_text(data: bytes, cut: bool = False) -> RecordText:
-    """Returns the content of these bytes; raises BadRecord at the first line that no record has.
+    """Returns the content of these bytes. Raises BadRecord at the first line that no record can have.
 
-    With `cut` the text may end before its line `end`; text after its last LF is then ignored.
+    If `cut` is true, the line `end` may be missing. Text after the last LF is then ignored.
     """
     reader, end = TextReader(), data.rfind(b"\n") + 1
-    # A byte that no text can have is reported before the lines are read.
+    # A byte that no record can have is reported before any wrong line.
     for block in blocks_of(data, end):
         decoded(block)
     if not cut:
@@ -153,7 +152,7 @@ def parse_text(data: bytes, cut: bool = False) -> RecordText:
 
 
 def blocks_of(data: bytes, end: int) -> Iterator[bytes]:
-    """Yields the complete lines of these bytes, many at a time."""
+    """Yields the complete lines of these bytes in large blocks."""
     first = 0
     while first < end:
         after = data.find(b"\n", min(first + BLOCK, end - 1)) + 1
@@ -162,7 +161,7 @@ def blocks_of(data: bytes, end: int) -> Iterator[bytes]:
 
 
 def decoded(data: bytes) -> str:
-    """Returns the text of these bytes."""
+    """Returns these bytes as text."""
     try:
         return data.decode()
     except UnicodeDecodeError:
@@ -170,12 +169,12 @@ def decoded(data: bytes) -> str:
 
 
 class TextReader:
-    """Reads the lines of a record as they come, all at once or during the run."""
+    """Reads the lines of a record, all at once or during the run."""
 
     def __init__(self) -> None:
-        #: The lines of the entries that were read.
+        #: The lines of the entries so far.
         self.lines: list[str] = []
-        #: Whether the line `end` was read.
+        #: Whether the line `end` has been read.
         self.is_ended = False
         self._version: Optional[Version] = None
         self._bus: Optional[RecordText] = None
@@ -183,11 +182,11 @@ class TextReader:
 
     @property
     def bus(self) -> Optional[RecordText]:
-        """Returns the bus after its line was read; it has the list `lines`, which grows."""
+        """Returns the bus, or None before its line has been read. The list of the bus grows as further lines are read."""
         return self._bus
 
     def take(self, lines: Iterable[str]) -> None:
-        """Takes these complete lines without LF; raises BadRecord at the first wrong line."""
+        """Reads these complete lines, which have no LF. Raises BadRecord at the first wrong line."""
         for line in lines:
             if self._bus is not None:
                 self._take_entry(line)
@@ -212,9 +211,9 @@ class TextReader:
             self.is_ended = True
 
     def finish(self, is_torn: bool = False, cut: bool = False) -> RecordText:
-        """Returns the content of the lines; `is_torn` says whether bytes of an incomplete line follow.
+        """Returns the content of the lines. `is_torn` is true if an incomplete line follows them.
 
-        With `cut` the line `end` may be missing.
+        If `cut` is true, the line `end` may be missing.
         """
         if self._version is None:
             raise no_version()
@@ -240,20 +239,20 @@ class TextReader:
 
 
 def no_version() -> BadRecord:
-    """Returns the fault of a text whose first line no record has."""
+    """Returns the error for a text whose first line is that of no version."""
     first = " or ".join(f"`{line}`" for line in VERSIONS)
     return BadRecord(f"no record: its first line is not {first}", "bad version")
 
 
 def version_of(line: str) -> Version:
-    """Returns the version of the text with this first line."""
+    """Returns the version with this first line."""
     if line not in VERSIONS:
         raise no_version()
     return VERSIONS[line]
 
 
 def needs_fd(line: str) -> bool:
-    """Returns whether neither version 1 nor version 2 has such a line."""
+    """Returns whether the line is too new for versions 1 and 2: it has an FD frame or the option for FD frames."""
     return "##" in line or line.startswith("option ") and line.split(" ")[2] == "fd"
 
 
@@ -263,23 +262,23 @@ def has_flags(line: str) -> bool:
 
 
 def has_down(line: str) -> bool:
-    """Returns whether the line takes an interface down, or reports a down interface."""
+    """Returns whether the line takes an interface down, or reports that one is down."""
     return line.startswith("down ") or line.endswith(" = interface-down")
 
 
 def has_its_filters(line: str) -> bool:
-    """Returns whether a line `filters` has as many filters as its number says."""
+    """Returns whether a line `filters` has the number of filters that it announces."""
     words = line.split(" = ")[0].split(" ")
     return len(words) == 3 + 2 * int(words[2])
 
 
 def bus_of(version: Version, line: str, entries: list[str]) -> RecordText:
-    """Returns the bus in this line, with this list of entries."""
+    """Returns the bus that this line describes, with this list of entries."""
     words = version.bus.fullmatch(line)
     if not words:
         raise bad_line(2, f"no bus: {line[:60]!a}")
     ifaces = int(words[1])
-    # Version 1 has no third number.
+    # Version 1 does not have the third number.
     tx_capacity, limit, auto_restart = map(int, [*words.groups()[3:], "0"][:3])
     if not (1 <= ifaces <= 16 and 1 <= tx_capacity <= 1024 and limit in version.limits and auto_restart <= 1000000):
         raise bad_line(2, f"a number out of range: {line[:60]!a}")

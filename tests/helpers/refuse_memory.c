@@ -1,7 +1,8 @@
-/* Refuses memory to the program that it is loaded into (LD_PRELOAD), as test_memory.py says.
+/* Refuses memory to the program that loads it (LD_PRELOAD), as test_memory.py needs it.
  *
- * REFUSE names a file of three numbers of 64 bits that both share: how often the program has asked for memory, and the
- * first and the last time that it is refused, counted from 1. A thread that is started asks too. */
+ * REFUSE names a file of three 64-bit numbers that the test and the program share: how often the program has asked for
+ * memory, and the first and the last request that are refused, counted from 1. The start of a thread is a request too.
+ */
 #define _GNU_SOURCE
 #include <dlfcn.h>
 #include <errno.h>

@@ -1,7 +1,7 @@
-"""Finds the rule that gave each attempt of a record its verdict, from the faults of its run, by docs/RECORD.md.
+"""Finds the rule that decided each attempt of a record, from the faults of the run, as docs/RECORD.md describes.
 
-This is an independent model, to which the tests hold the program: it takes a rule apart by one regular expression, and
-knows nothing of the package and its rules.
+This is an independent model, with which the tests compare the program. It parses a rule by one regular expression, and does not use
+the package's rules.
 """
 
 import re
@@ -15,12 +15,12 @@ RULE = re.compile(
 )
 LATER = re.compile("at ([0-9]{1,10}) (.*)")
 NUMBERED = re.compile("([0-9]{1,8}) (.*)")
-# The flags of an identifier word in linux/can.h.
+# The flags of an identifier word (linux/can.h).
 EXTENDED, REMOTE, INVERTED = 1 << 31, 1 << 30, 1 << 29
 
 
 class Rule:
-    """A rule that the bus took: its number, and the numbers of attempts that it still skips and takes."""
+    """A rule that the bus accepted, with its number. It counts the attempts that it still has to skip and to decide."""
 
     def __init__(self, number: int, text: str, names: Sequence[str]) -> None:
         found = RULE.fullmatch(text)
@@ -33,7 +33,7 @@ class Rule:
         self.left = int(found["count"]) if found["count"] else None
 
     def matches(self, winner: int, word: int) -> bool:
-        """Returns whether the rule matches an attempt of this winner, with a frame of this identifier word."""
+        """Returns whether the rule matches an attempt with this winner and this identifier word."""
         if self.senders is not None and winner not in self.senders:
             return False
         is_equal = word & self.mask == self.identifier & self.mask
@@ -41,19 +41,20 @@ class Rule:
 
 
 class RunFaults:
-    """The faults of a run: the numbered lines of its script, its rules, and the changes during the run."""
+    """The faults of a run: numbered lines, rules, and the changes during the run."""
 
     def __init__(self, text: str, names: Sequence[str]) -> None:
         self.names, self.taken = names, 0
-        #: The remaining rules.
+        #: The rules that have not been used up.
         self.rules: list[Rule] = []
-        #: The verdicts of the numbered lines.
+        #: The verdicts of numbered lines, by the number of the attempt.
         self.lines: dict[int, str] = {}
-        #: The rules given or ended before an attempt, by its number, in order.
+        #: The rules that are added or ended during the run, in order, each with the number of the attempt before which that
+        #: happens.
         self.later: list[tuple[int, str]] = []
         #: The number of attempts with a frame.
         self.tried = 0
-        #: The event lines of taken rules and of their ends, since the last call of `tell`.
+        #: The event lines since the last call of `tell`, about rules that were accepted or ended.
         self.told: list[str] = []
         for line in filter(None, text.split("\n")):
             later, numbered = LATER.fullmatch(line), NUMBERED.fullmatch(line)
@@ -65,19 +66,19 @@ class RunFaults:
                 self.take(line)
 
     def take(self, rule: str) -> None:
-        """Takes a further rule, if there is room for it."""
+        """Adds a rule if there is room for it."""
         if len(self.rules) < MOST_RULES:
             self.taken += 1
             self.rules.append(Rule(self.taken, rule, self.names))
             self.told.append(self.rules[-1].line)
 
     def end(self) -> None:
-        """Ends all remaining rules; numbered lines stay."""
+        """Ends all remaining rules, but not the numbered lines."""
         self.rules.clear()
         self.told.append("nofaults")
 
     def catch_up(self, number: int) -> None:
-        """Gives and ends rules as the run did before the attempt with this number."""
+        """Adds and ends rules as the run did before the attempt with this number."""
         while self.later and self.later[0][0] <= number:
             _, change = self.later.pop(0)
             if change == "nofaults":
@@ -86,12 +87,12 @@ class RunFaults:
                 self.take(change)
 
     def tell(self) -> list[str]:
-        """Returns the lines of rules since the last call."""
+        """Returns the event lines about rules since the last call."""
         told, self.told = self.told, []
         return told
 
     def part(self, line: str) -> str:
-        """Returns the last part of the next entry's line, for this line of the record; empty if there is none."""
+        """Returns the part about a rule that ends the event line of this entry, or the empty text if no rule decided."""
         words = line.split(" ")
         if words[0] != "attempt" or words[4] != "tried":
             return ""
@@ -99,9 +100,9 @@ class RunFaults:
         return f"rule {rule}" if rule and verdict == words[2] else ""
 
     def decide(self, winner: int, word: int) -> "tuple[str, int | None]":
-        """Returns the verdict of the next attempt with a frame, and the number of the deciding rule, if there is one.
+        """Returns the verdict of the next attempt with a frame, and the number of the rule that decided it, or None.
 
-        Earlier rules that match skip a further attempt.
+        Earlier rules that match count this attempt as one that they skip.
         """
         self.catch_up(self.tried)
         line = self.lines.get(self.tried)
@@ -123,8 +124,7 @@ class RunFaults:
 
 
 def words_of(identifier: "str | None", mask: "str | None") -> tuple[int, int]:
-    """Returns the identifier word and the mask of a rule; a frame's flag for a remote frame counts only if a mask
-    includes it."""
+    """Returns the identifier word and the mask of a rule. The flag of remote frames counts only if the rule has a mask."""
     if identifier is None:
         return 0, 0
     number = int(identifier, 16)
@@ -134,14 +134,14 @@ def words_of(identifier: "str | None", mask: "str | None") -> tuple[int, int]:
 
 
 def word_of(frame: str) -> int:
-    """Returns the identifier word of a frame in the record's spelling."""
+    """Returns the identifier word of a frame in the notation of records."""
     identifier, _, data = frame.partition("#")
     word = int(identifier, 16) | (EXTENDED if len(identifier) == 8 else 0)
     return word | (REMOTE if data.startswith("R") else 0)
 
 
 def recorded(verdict: str, names: Sequence[str]) -> str:
-    """Returns a verdict of a script in the record's spelling."""
+    """Returns the verdict of a script in the notation of records."""
     words = verdict.split(" ")
     if words[0] != "local":
         return "-".join(words)
@@ -150,8 +150,7 @@ def recorded(verdict: str, names: Sequence[str]) -> str:
 
 
 def written(found: "re.Match[str]", names: Sequence[str]) -> str:
-    """Returns a rule in the words of the program: interfaces by number, and an identifier with its mask in 8 digits
-    each."""
+    """Returns a rule in the program's words: interfaces as numbers, identifier and mask in 8 digits each."""
     words = [f"next {int(found['count'])}" if found["count"] else "always"]
     if found["senders"]:
         words.append(f"from {in_places(found['senders'], names)}")
@@ -170,18 +169,18 @@ def written(found: "re.Match[str]", names: Sequence[str]) -> str:
 
 
 def in_places(given: str, names: Sequence[str]) -> str:
-    """Returns these names in the order of the interfaces, each once."""
+    """Returns these names without duplicates, in the order of the interfaces."""
     return ",".join(name for name in names if name in given.split(","))
 
 
 def with_rules(events: str, faults: RunFaults) -> str:
-    """Returns the text of a record's events with the rules that the bus took, and the deciding rules."""
+    """Adds to the text of a record's events the rules that the bus accepted, and the deciding rules."""
     return "".join(f"{line}\n" for line in ruled_lines(events.splitlines(), faults))
 
 
 def ruled_lines(lines: Sequence[str], faults: RunFaults) -> Iterator[str]:
-    """Yields the lines with their last part, and the lines of rules: the script's after the second line, those of a
-    change before its attempt, and the remaining ones before the last line."""
+    """Yields the event lines with their parts about rules, and the lines about rules. The script's rules come after the second
+    line, each change comes before its attempt, and the remaining changes come before the last line."""
     for place, line in enumerate(lines):
         if line.startswith(("end ", "cut ")):
             faults.catch_up(1 << 64)
@@ -192,5 +191,5 @@ def ruled_lines(lines: Sequence[str], faults: RunFaults) -> Iterator[str]:
 
 
 def rules_of(events):
-    """Returns the number of the deciding rule for each attempt with a frame; the empty text if there is none."""
+    """Returns the number of the deciding rule of each attempt with a frame, or the empty text if no rule decided."""
     return [line.partition("; rule ")[2] for line in events.splitlines() if " = tried " in line]

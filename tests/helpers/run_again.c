@@ -1,5 +1,6 @@
-/* Makes of a program one that runs for each byte of a file, in a fork of itself before its main function (LD_PRELOAD),
- * as run_again.py says. The status, as of waitpid, goes to another file. RUN_AGAIN has the numbers of both. */
+/* Makes a program run once for each byte of a file, each time in a fork of itself before its main function
+ * (LD_PRELOAD), as run_again.py needs it. Each status, as waitpid gives it, is written to another file. RUN_AGAIN has
+ * the file descriptors of both files. */
 #include <stdio.h>
 #include <stdlib.h>
 #include <sys/wait.h>

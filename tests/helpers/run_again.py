@@ -1,4 +1,4 @@
-"""A program that runs for many inputs: run_again.c starts it once, and each run is a fork of that process."""
+"""Runs a program for many inputs: run_again.c starts the program once, and each run is a fork of that process."""
 
 import os
 import select
@@ -8,7 +8,7 @@ import subprocess
 from serving import ROOT, WAIT
 
 SOURCE = os.path.join(ROOT, "tests", "helpers", "run_again.c")
-#: The statuses of the program's runs.
+#: The exit statuses of the runs.
 STATUS = struct.Struct("=i")
 
 
@@ -19,13 +19,13 @@ def compile_library(folder):
 
 
 class Again:
-    """The program with these words; it reads each input from /dev/stdin."""
+    """A program with these arguments, which reads each input from /dev/stdin."""
 
     def __init__(self, library, *words):
         self.files = [os.memfd_create(name, os.MFD_CLOEXEC) for name in ("input", "output", "errors")]
         asked, self.ask = os.pipe()
         self.told, tell = os.pipe()
-        # Each run has new pipes.
+        # The pipes of each run are new.
         streams = [open(f"/proc/self/fd/{file}", mode) for file, mode in zip(self.files, ("rb", "ab", "ab"))]
         env = {**os.environ, "LD_PRELOAD": str(library), "RUN_AGAIN": f"{asked} {tell}"}
         stdin, stdout, stderr = streams

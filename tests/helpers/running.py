@@ -1,4 +1,4 @@
-"""canbusd-run for tests: the command, C programs that are compiled for a test, and the leftovers of a run."""
+"""canbusd-run for tests: the command itself, C programs that are compiled for a test, and processes that a run leaves."""
 
 import contextlib
 import functools
@@ -15,7 +15,7 @@ SOURCES = os.path.join(ROOT, "canrun")
 PROGRAMS = os.path.join(ROOT, "canrun", "tests", "run_c")
 FLAGS = ["-std=gnu11", "-O1", "-Wall", "-Wextra", "-Werror", "-pthread"]
 SANITIZERS = ["-g", "-fsanitize=address,undefined", "-fno-sanitize-recover=all"]
-#: The options of a server that is as fast as the test.
+#: The options of a server that never waits, so that tests are fast.
 FAST = ("--pace", "0", "--txqueue", "1024", "--rxqueue", "65536", "--write", "16384")
 
 needs_gcc = pytest.mark.skipif(not shutil.which("gcc"), reason="no gcc: apt-get install gcc")
@@ -29,7 +29,7 @@ def needs(*tools):
 
 @functools.lru_cache(maxsize=None)
 def command():
-    """Returns the path of canbusd-run: CANBUSD_RUN, else the program of these sources, which may have to be built."""
+    """Returns the path of canbusd-run: the value of CANBUSD_RUN, or the program of these sources, which is built if necessary."""
     if "CANBUSD_RUN" in os.environ:
         return os.path.abspath(os.environ["CANBUSD_RUN"])
     words = [os.path.join(ROOT, "scripts", "run-program"), "choose"]
@@ -48,14 +48,14 @@ def sanitized_command():
 
 
 def compiled(name, folder, *flags):
-    """Compiles a program of canrun/tests/run_c into this folder, and returns its path."""
+    """Compiles a program from canrun/tests/run_c into this folder, and returns its path."""
     path = os.path.join(folder, name)
     subprocess.run(["gcc", *FLAGS, *flags, "-o", path, os.path.join(PROGRAMS, f"{name}.c")], check=True)
     return path
 
 
 def environment(server, **more):
-    """Returns the environment of a program for this server, with which canbusd-run finds the server."""
+    """Returns the environment with which canbusd-run finds this server."""
     address = server.address
     if address.startswith("."):
         address = os.path.join(server.folder, address)
@@ -63,14 +63,14 @@ def environment(server, **more):
 
 
 def run(server, *words, options=(), patience=60, runner=None, **how):
-    """Runs a program by canbusd-run, and returns its result and its output."""
+    """Runs a program with canbusd-run. Returns the result and the output."""
     how.setdefault("env", environment(server))
     line = [runner or command(), *options, "--", *words]
     return subprocess.run(line, capture_output=True, text=True, timeout=patience, check=False, **how)
 
 
 def passes(server, *words, **how):
-    """Runs a program that must end with status 0; returns its standard output."""
+    """Runs a program, checks that its status is 0, and returns its standard output."""
     ended = run(server, *words, **how)
     assert ended.returncode == 0, f"status {ended.returncode}: {ended.stdout}{ended.stderr}"
     return ended.stdout
@@ -78,7 +78,7 @@ def passes(server, *words, **how):
 
 @contextlib.contextmanager
 def started(server, *words, options=(), **how):
-    """A program that runs by canbusd-run, in its own process group, which is ended with the block."""
+    """Starts a program with canbusd-run in its own process group. The end of the block ends this group."""
     how.setdefault("env", environment(server))
     how = {"stdout": subprocess.PIPE, "stderr": subprocess.PIPE, "text": True, "start_new_session": True, **how}
     with subprocess.Popen([command(), *options, "--", *words], **how) as child:
@@ -90,7 +90,7 @@ def started(server, *words, options=(), **how):
 
 
 def processes_of(address, name):
-    """Returns the numbers of the living processes with this name for a server at this address."""
+    """Returns the ids of running processes with this name that belong to a server at this address."""
     found = []
     for process in filter(str.isdigit, os.listdir("/proc")):
         with contextlib.suppress(OSError):
@@ -104,29 +104,30 @@ def processes_of(address, name):
 
 
 def bridges(address):
-    """Returns the numbers of the living bridges for a server at this address."""
+    """Returns the ids of the running bridges to a server at this address."""
     return processes_of(address, "canbusd-bridge")
 
 
 def none_left(server):
-    """Returns whether all bridges of this server end soon."""
+    """Waits until all bridges of this server have ended, and returns whether they did so in time."""
     return come_true(lambda: not bridges(environment(server)["CANBUSD_ADDRESS"]), WAIT)
 
 
-#: System calls in which a program waits for frames: poll, select, pselect6, ppoll, epoll_wait, epoll_pwait, recvmsg.
-#: While a program makes or binds a socket it waits in other calls.
+#: The system calls in which a program waits for frames: poll, select, pselect6, ppoll, epoll_wait, epoll_pwait, recvmsg. While a
+#: program creates or binds a socket, it waits in other calls.
 WAITING = {7, 23, 270, 271, 232, 281, 47}
 
 
 def settled(child):
-    """Returns the program after it waits for frames; the program may have ended."""
+    """Waits until the program waits for frames or has ended, and returns it."""
 
     def fact(name):
         with open(f"/proc/{child.pid}/{name}", encoding="utf-8") as file:
             return file.read().split()[0]
 
     def waits():
-        # The command also waits, for the server's replies, and for a moment its process has the name of this program.
+        # canbusd-run itself waits in these calls too, for replies of the server. The name of its process may change between
+        # two reads, so the name is read before and after the call.
         before, call, after = fact("comm"), fact("syscall"), fact("comm")
         return "canbusd-run" not in (before, after) and call in map(str, WAITING)
 
@@ -139,13 +140,13 @@ def settled(child):
 
 @contextlib.contextmanager
 def listening(server, *words, **how):
-    """A program that runs by canbusd-run, and waits for frames."""
+    """Starts a program with canbusd-run, and waits until it waits for frames."""
     with started(server, *words, **how) as child:
         yield settled(child)
 
 
 def written(child, patience=WAIT):
-    """Returns the output of a program until its end, which comes by itself."""
+    """Waits until the program ends by itself with status 0, and returns its output."""
     output, errors = child.communicate(timeout=patience)
     assert child.returncode == 0, f"status {child.returncode}: {output}{errors}"
     return output
@@ -153,7 +154,7 @@ def written(child, patience=WAIT):
 
 @pytest.fixture
 def server():
-    """A fast server of two buses; after the test no session of it remains."""
+    """A fast server with two buses. The test has to close all its sessions."""
     with serving(*FAST, "can0,can1", "vcan0") as running:
         yield running
         assert none_left(running), "a bridge is left"

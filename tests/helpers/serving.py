@@ -1,7 +1,7 @@
 """A server in its own folder, and clients that are plain sockets.
 
-The package's Server ends a server in one way, and its clients interpret messages. This module shows a server from
-outside: its processes, its streams, and its end. Its clients return each text unchanged.
+The package's Server has one way to end a server, and its clients interpret messages. This module shows the processes, the streams
+and the end of a server from outside. Its clients return each text unchanged.
 """
 
 import contextlib
@@ -20,13 +20,13 @@ import tempfile
 import time
 
 ROOT = str(pathlib.Path(__file__).resolve().parents[2])
-# Seconds in which what has to come comes, on any machine, also one that does much else.
+# The timeout in seconds for any awaited event, long enough for a busy machine.
 WAIT = 60
 
 
 @functools.lru_cache(maxsize=None)
 def program():
-    """Returns the path of the program, without its launcher: CANBUSD, else the program that fits these sources."""
+    """Returns the path of the program without its launcher: the value of CANBUSD, or the program of these sources."""
     if "CANBUSD" in os.environ:
         path = os.path.abspath(os.environ["CANBUSD"])
         if not shutil.which(path):
@@ -43,21 +43,21 @@ def program():
 
 
 class NoProgram(Exception):
-    """There is no program to test; the text has the remedy."""
+    """There is no program to test. The text says how to get one."""
 
 
 @functools.lru_cache(maxsize=None)
 def writes_live():
-    """Returns whether the program has `serve --record`."""
+    """Returns whether the program has the option `serve --record`."""
     return b"--record" in subprocess.run([program(), "serve", "--help"], stdout=subprocess.PIPE, check=True).stdout
 
 
 class NotListening(Exception):
-    """A server printed something other than its address; the text is its output."""
+    """A server did not print its address. The text is what it printed instead."""
 
 
 def come_true(question, patience=WAIT):
-    """Returns whether this becomes true within these seconds."""
+    """Waits until the condition is true, and returns whether that happened within these seconds."""
     until = time.monotonic() + patience
     while time.monotonic() < until:
         if question():
@@ -67,7 +67,7 @@ def come_true(question, patience=WAIT):
 
 
 def turns(what, patience=WAIT):
-    """Yields turns of a loop, which must be left in time; else the test fails, because this event has not come."""
+    """Yields until the loop is left. If that takes too long, the test fails with the name of the awaited event."""
     until = time.monotonic() + patience
     while time.monotonic() < until:
         yield
@@ -75,7 +75,7 @@ def turns(what, patience=WAIT):
 
 
 def join(threads, patience=WAIT):
-    """Waits until these threads have ended, for at most these seconds in all."""
+    """Waits until these threads have ended, at most this many seconds for all of them."""
     until = time.monotonic() + patience
     for thread in threads:
         thread.join(max(0, until - time.monotonic()))
@@ -84,7 +84,7 @@ def join(threads, patience=WAIT):
 
 @contextlib.contextmanager
 def one_at_a_time(what):
-    """Waits until no other test of this user is in such a block on this machine."""
+    """Lets only one test of this user on this machine run such a block at a time."""
     path = os.path.join(tempfile.gettempdir(), f"canbusd-tests-{os.getuid()}-{what}.lock")
     with open(path, "w", encoding="ascii") as file:
         fcntl.flock(file, fcntl.LOCK_EX)
@@ -92,7 +92,7 @@ def one_at_a_time(what):
 
 
 def threads_of(processes):
-    """Returns the state of each thread, and the number of times that it has gone to sleep."""
+    """Yields the state of each thread, and how often it has gone to sleep."""
     for process in processes:
         for path in glob.glob(f"/proc/{process}/task/*/status"):
             with contextlib.suppress(OSError), open(path, encoding="utf-8") as status:
@@ -100,24 +100,23 @@ def threads_of(processes):
 
 
 def all_sleep(processes):
-    """Returns whether all threads of these processes sleep, or have ended: a thread that is seen twice in the same
-    sleep did not run between."""
+    """Returns whether all threads of these processes are asleep or have ended. A thread that is seen twice in the same sleep did
+    not run in between."""
     before, now = sorted(threads_of(processes)), sorted(threads_of(processes))
     return before == now and all(state in "SZ" for _, state, _ in now)
 
 
 def line_of(stream):
-    """Returns the next line of a text pipe from which only lines are read."""
+    """Returns the next line of a text pipe. The pipe must not be read in any other way."""
     assert select.select([stream], [], [], WAIT)[0], "it writes nothing"
     return stream.readline()
 
 
 class Server:
-    """A server that runs in a folder of its own, in a group of processes of its own.
+    """A server that runs in its own folder and in its own process group.
 
-    The launcher's part for servers starts it, or the launcher of that path, or where `launcher` is False nothing does:
-    then it is the program itself. Ctrl-C ends it, or the end of its input where that is a pipe. Its files are in its
-    folder unless `out` says otherwise.
+    `launcher` is True for the launcher's part for servers, a path for another launcher, or False for the program itself. Ctrl-C
+    ends the server, or the end of its input if that is a pipe. The server's files are in the folder unless `out` names another one.
     """
 
     def __init__(self, *words, address="127.0.0.1:0", launcher=True, out=".", **how):
@@ -156,7 +155,7 @@ class Server:
         return os.path.join(self.folder, name)
 
     def processes(self):
-        """The server's processes, each with the fields of its state."""
+        """Returns the processes of the server, each with the fields of its state."""
         for process in filter(str.isdigit, os.listdir("/proc")):
             with contextlib.suppress(OSError), open(f"/proc/{process}/stat", encoding="utf-8") as stat:
                 fields = stat.read().rsplit(") ", 1)[1].split()
@@ -164,21 +163,21 @@ class Server:
                     yield process, fields
 
     def ticks(self):
-        """The processor time of all the server's processes, in hundredths of a second."""
+        """Returns the processor time of all processes of the server, in hundredths of a second."""
         return sum(int(fields[11]) + int(fields[12]) for _, fields in self.processes())
 
     def held(self):
-        """The number of file descriptors and threads in the server's processes."""
+        """Returns the number of file descriptors and threads of the server's processes."""
         return sum(
             len(os.listdir(f"/proc/{process}/{what}")) for process, _ in self.processes() for what in ("fd", "task")
         )
 
     def rests(self):
-        """Whether the server waits with all its threads."""
+        """Returns whether all threads of the server are waiting."""
         return all_sleep([process for process, _ in self.processes()])
 
     def memory(self, what):
-        """The memory of the server's processes in kilobytes, from VmRSS or VmHWM of their status."""
+        """Returns the memory of the server's processes in kilobytes, by VmRSS or VmHWM of their status."""
         held = 0
         for process, _ in self.processes():
             with contextlib.suppress(OSError), open(f"/proc/{process}/status", encoding="utf-8") as status:
@@ -186,7 +185,7 @@ class Server:
         return held
 
     def finish(self, patience=WAIT):
-        """Ends the server, which must happen in time; returns its status, and its output after `listening`."""
+        """Ends the server within the timeout. Returns the status, and the output after `listening`."""
         if self.child.stdin is None:
             os.killpg(self.child.pid, signal.SIGINT)
         try:
@@ -196,7 +195,7 @@ class Server:
         return self.child.returncode, written
 
     def end(self, says="", patience=WAIT):
-        """Ends the server, which must succeed; returns its output after `listening`."""
+        """Ends the server, and checks its status and its standard error. Returns the output after `listening`."""
         status, written = self.finish(patience)
         assert status == 0, f"status {status}: {self.said()}"
         assert self.said() == says, f"standard error: {self.said()}"
@@ -219,7 +218,7 @@ class Server:
 
 @contextlib.contextmanager
 def serving(*words, **how):
-    """A server that ends with the block, whatever happens."""
+    """A server that always ends with the block."""
     server = Server(*words, **how)
     try:
         yield server
@@ -228,12 +227,12 @@ def serving(*words, **how):
 
 
 def serving_alone(*words, **how):
-    """A server that is the program without its launcher, and ends when its input ends."""
+    """The program as a server, without its launcher. It ends when its input ends."""
     return serving("--until-eof", *words, launcher=False, stdin=subprocess.PIPE, **how)
 
 
 class Plain:
-    """A connection that is only a socket, and returns the texts unchanged."""
+    """A connection by a plain socket, which returns each text unchanged."""
 
     def __init__(self, server):
         self.rest = ""
@@ -248,7 +247,7 @@ class Plain:
         self.socket.sendall(text.encode())
 
     def text(self):
-        """Returns the next message, or the empty text if the connection has ended."""
+        """Returns the next message, or the empty text if the connection has been closed."""
         while ">" not in self.rest:
             piece = self.socket.recv(65536)
             if not piece:
@@ -262,7 +261,7 @@ class Plain:
         return self.text()
 
     def frame(self):
-        """Returns the next frame: its identifier as written, and its data."""
+        """Returns the identifier and the data of the next frame, both as they are written."""
         text = self.text()
         frame = re.fullmatch(r"< frame ([0-9A-F]{3}|[0-9A-F]{8}) \d+\.\d{6} ([0-9A-F]*) >", text)
         assert frame, text
@@ -281,8 +280,8 @@ def plain(server, name):
 
 
 class Pair:
-    """Two sessions that exchange frames, whatever else happens on their bus. No other session sends 29-bit identifier
-    0, which precedes all others but 11-bit identifier 0."""
+    """Two sessions that exchange frames even on a busy bus: they use the 29-bit identifier 0, which wins against all others but the
+    11-bit identifier 0. No other session sends it."""
 
     def __init__(self, server, source="can0", target="can1"):
         self.source, self.target, self.count = plain(server, source), plain(server, target), 0
@@ -290,7 +289,7 @@ class Pair:
         assert replies == ("< ok >", "< ok >"), f"{replies}"
 
     def go_on(self, after="what happened"):
-        """Returns the next frame from one session to the other."""
+        """Sends a frame from one session to the other, and checks that it arrives."""
         self.count += 1
         data = self.count.to_bytes(4, "big")
         self.source.write(f"< send 00000000 4 {data.hex(' ')} >")

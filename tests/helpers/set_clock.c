@@ -1,5 +1,5 @@
-/* Sets the system's clock for the program that it is loaded into (LD_PRELOAD), as test_server_times.py says: by an
- * hour, once there is a file at the path CLOCK. */
+/* Changes the clock of the program that loads it (LD_PRELOAD), as test_server_times.py needs it. The clock jumps by an
+ * hour as soon as a file exists at the path in CLOCK. */
 #include <stdlib.h>
 #include <sys/syscall.h>
 #include <time.h>

@@ -1,7 +1,7 @@
-"""The options and fixtures of the tests of the program and of canbusd-run: each conftest.py registers them.
+"""The options and fixtures that the tests of the program and of canbusd-run share. Each conftest.py registers them.
 
-CANBUSD names the program; as it is, the one that fits the sources. Where there is none, no test is run. TESTS_CASES is how many
-random inputs a test tries, unless --cases says it.
+CANBUSD names the program, which otherwise is the program of these sources. Without a program no test runs. TESTS_CASES is the
+number of random inputs for a test, unless --cases gives another number.
 """
 
 import importlib.util
@@ -17,11 +17,11 @@ import kept_bytecode  # noqa: F401
 import serving
 from few_at_a_time import pytest_xdist_make_scheduler  # noqa: F401
 
-# Programs that the tests start use the package of the tests.
+# Programs that the tests start use the package under test.
 os.environ["PYTHONPATH"] = os.path.dirname(importlib.util.find_spec("canbusd").submodule_search_locations[0])
 os.environ["PYTHONDONTWRITEBYTECODE"] = "1"
-# A background job, or a job under nohup, ignores these signals, and so would programs that the tests start. A handled
-# signal is not ignored there.
+# A background job, or a job under nohup, ignores these signals, and programs that the tests start would inherit that. A signal with
+# a handler is not ignored in those programs.
 for ignored in (signal.SIGINT, signal.SIGQUIT, signal.SIGHUP):
     if signal.getsignal(ignored) == signal.SIG_IGN:
         signal.signal(ignored, lambda *_: None)
@@ -31,7 +31,8 @@ def share(pluginmanager):
     """Registers this module as a plugin, once, for any number of test folders."""
     if not pluginmanager.has_plugin(__name__):
         pluginmanager.register(sys.modules[__name__], __name__)
-    # If the package's tests run together with these, and the package is not installed, pytest has not found the plugin.
+    # If the package is not installed, pytest has not found the plugin by itself. The package's tests need it if they run together
+    # with these.
     pluginmanager.import_plugin("canbusd.pytest_plugin")
 
 
@@ -78,19 +79,19 @@ def pytest_runtest_setup(item):
 
 @pytest.fixture
 def rng(request):
-    """A source of random numbers that depends only on the test and a seed, whatever other tests run."""
+    """A source of random numbers that depends only on the test and the seed, not on other tests."""
     return random.Random(f"{request.config.getoption('seed')} {request.node.name}")
 
 
 @pytest.fixture
 def cases(request):
-    """The number of random inputs that are tried."""
+    """The number of random inputs that a test tries."""
     return request.config.getoption("cases")
 
 
 @pytest.fixture
 def fixed_ports():
-    """For a test that listens at a port from a document or another program: only one such test runs at a time."""
+    """For tests that listen at a fixed port of a document or of another program. Only one of these tests runs at a time."""
     with serving.one_at_a_time("ports"):
         yield
 

@@ -1,4 +1,4 @@
-/* Lets each read of standard input, a file, give one byte at most (LD_PRELOAD), as test_bench_lines.py says. */
+/* Lets each read of standard input, a file, give at most one byte (LD_PRELOAD), as test_bench_lines.py needs it. */
 #include <sys/syscall.h>
 #include <unistd.h>
 

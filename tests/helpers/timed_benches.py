@@ -1,4 +1,4 @@
-"""Benches with bit rates: their options, frames as messages, and the output on their attempts."""
+"""Benches with bit rates: the options, frames as messages, and the output about attempts."""
 
 from __future__ import annotations
 
@@ -13,7 +13,7 @@ MICRO = 1000
 
 
 def moment(nanos: int) -> str:
-    """Returns the microsecond that contains a time, in the program's spelling."""
+    """Returns a time in the program's notation, rounded down to a microsecond."""
     micros = nanos // MICRO
     return f"{micros // 1_000_000}.{micros % 1_000_000:06}"
 
@@ -21,7 +21,7 @@ def moment(nanos: int) -> str:
 def bench(
     program: str, options: Sequence[str], names: Sequence[str], lines: Iterable[str], status: int = 0
 ) -> list[str]:
-    """Returns the lines that a bench writes about its attempts, with a session on each interface."""
+    """Returns the output of a bench about its attempts. The bench has a session on each interface."""
     opened = []
     for number, name in enumerate(names, 1):
         opened += [f"session {number}", f"feed {number} < open {name} >< rawmode >< fdframes 1 >"]

@@ -1,7 +1,7 @@
-"""Frames on the wire, bit by bit, apart from the program and its definitions.
+"""A model of frames on the wire, bit by bit, independent of the program and its definitions.
 
-Read from the Bosch CAN Specification 2.0, sections 3 and 6, and ISO 11898-1:2015. `python3 tests/helpers/wire_model.py` prints
-the random frames of tests/rattle/can_unit_tests/tests/wire.rtt, with the numbers of their bits.
+The sources are the Bosch CAN Specification 2.0, sections 3 and 6, and ISO 11898-1:2015. `python3 tests/helpers/wire_model.py`
+prints the random frames of tests/rattle/can_unit_tests/tests/wire.rtt, with the numbers of their bits.
 """
 
 from __future__ import annotations
@@ -12,8 +12,8 @@ from collections.abc import Iterator, Sequence
 
 FD_LENGTHS = [0, 1, 2, 3, 4, 5, 6, 7, 8, 12, 16, 20, 24, 32, 48, 64]
 ACKNOWLEDGED_END = [1, 0, 1] + 7 * [1]
-# The bits of frames from start of frame to end of frame. 000# is worked out by hand (34 zeros including those of its
-# CRC, 6 stuff bits, 10 at its end). The others come from their fields and a second model.
+# The number of bits from start of frame to end of frame. For 000# it was worked out by hand: 34 zeros including those of the CRC, 6
+# stuff bits, 10 bits at the end. The other numbers come from the fields of the frames and from a second model.
 KNOWN_LENGTHS = [
     ("000#", 50),
     ("123#", 45),
@@ -28,7 +28,7 @@ KNOWN_LENGTHS = [
 
 @dataclasses.dataclass(frozen=True)
 class Frame:
-    """A frame; `requests` is the length that a remote frame asks for."""
+    """A frame. `requests` is the length in the DLC of a remote frame."""
 
     number: int
     extended: bool
@@ -40,7 +40,7 @@ class Frame:
 
     @staticmethod
     def read(text: str) -> Frame:
-        """Returns the frame for a text like candump's: of an FD frame's flags BRS is 1, and ESI 2."""
+        """Returns the frame for a text in candump's notation. Of the flags of an FD frame, 1 is BRS and 2 is ESI."""
         word, payload = text.split("#", 1)
         number, extended = int(word, 16), len(word) == 8
         if payload.startswith("#"):
@@ -57,12 +57,12 @@ class Frame:
 
 
 def number_bits(number: int, count: int) -> list[int]:
-    """Returns the lowest bits of a number, the highest first."""
+    """Returns the lowest `count` bits of a number, highest bit first."""
     return [number >> place & 1 for place in reversed(range(count))]
 
 
 def crc(bits: Sequence[int], width: int, polynomial: int, start: int = 0) -> list[int]:
-    """Returns the content of the shift register in Bosch, section 3.2.1, after these bits."""
+    """Returns the content of the CRC register (Bosch, section 3.2.1) after these bits."""
     register = start
     for bit in bits:
         differs = bit ^ register >> (width - 1)
@@ -73,8 +73,8 @@ def crc(bits: Sequence[int], width: int, polynomial: int, start: int = 0) -> lis
 
 
 class Sender:
-    """The sent bits, the number at the data bit rate, the number of stuff bits, and which bits are stuff bits,
-    including fixed ones."""
+    """The bits that have been sent, the number of bits at the data bit rate, the number of stuff bits, and which bits are stuff
+    bits. Fixed stuff bits count as well."""
 
     def __init__(self) -> None:
         self.bits: list[int] = []
@@ -88,7 +88,7 @@ class Sender:
         self.fast += fast
 
     def put_stuff_bit(self, fast: bool) -> None:
-        """Adds a stuff bit if one is due."""
+        """Adds a stuff bit if the last five bits are equal."""
         if self.run == 5:
             self.put(1 - self.bits[-1], fast, True)
             self.stuff_bits += 1
@@ -99,7 +99,7 @@ class Sender:
             self.put(bit, fast)
 
     def send_fixed(self, bits: Sequence[int], fast: bool) -> None:
-        """Sends bits with a fixed stuff bit before the first one and after each fourth."""
+        """Sends bits with a fixed stuff bit before the first and after every fourth bit."""
         for place, bit in enumerate(bits):
             if place % 4 == 0:
                 self.put(1 - self.bits[-1], fast, True)
@@ -139,7 +139,7 @@ def send_fd(frame: Frame, sender: Sender) -> None:
 
 
 def sent(frame: Frame) -> Sender:
-    """Returns a frame from start of frame to end of frame, which a receiver acknowledges."""
+    """Returns the bits of a frame from start of frame to end of frame, with the acknowledgement of a receiver."""
     sender = Sender()
     if frame.is_fd:
         send_fd(frame, sender)
@@ -151,19 +151,19 @@ def sent(frame: Frame) -> Sender:
 
 
 def bit_counts(frame: Frame) -> tuple[int, int]:
-    """Returns the number of bits of a frame at the nominal bit rate, and at the data bit rate."""
+    """Returns the number of bits of a frame at the nominal bit rate and at the data bit rate."""
     sender = sent(frame)
     return len(sender.bits) - sender.fast, sender.fast
 
 
 def random_data(maker: random.Random, length: int) -> bytes:
-    """Returns bytes with many equal bits in a row, or any bytes."""
+    """Returns random data. Some has many equal bits in a row, and so needs stuff bits."""
     choices = b"\x00\xff\x0f\xf8\x83\x3c" if maker.random() < 0.5 else bytes(range(256))
     return bytes(maker.choice(choices) for _ in range(length))
 
 
 def random_frames(seed: int, count: int, is_fd: bool, longest: int) -> Iterator[Frame]:
-    """Returns frames of every kind, many with stuff bits."""
+    """Returns random frames of every kind, many of which have stuff bits."""
     maker = random.Random(seed)
     lengths = [length for length in FD_LENGTHS if length <= longest]
     for _ in range(count):

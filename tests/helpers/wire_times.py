@@ -1,8 +1,8 @@
-"""The times of frames on a bus with bit rates, independent of the program: the lengths of attempts, the order of
-frames, and the worst response times by analysis.
+"""The times of frames on a bus with bit rates, independent of the program: lengths of attempts, the order of frames, and worst
+response times by analysis.
 
-The bits of a frame are those of wire_model.py. Where a failed attempt ends is a choice of this project
-(crates/can_wire/specs/AttemptBits.antt). Times are in nanoseconds, exact but for each attempt's end, which is rounded
+The bits of a frame are those of wire_model.py. The end of a failed attempt is defined by this project
+(crates/can_wire/specs/AttemptBits.antt). Times are in nanoseconds. They are exact, except that the end of each attempt is rounded
 up.
 """
 
@@ -18,15 +18,15 @@ from wire_model import FD_LENGTHS, Frame, Sender, arbitration_bits, bit_counts, 
 
 SECOND = 10**9
 INTERMISSION = 3
-# The bits for CRC delimiter, ACK slot, ACK delimiter and end of frame.
+# The number of bits of CRC delimiter, ACK slot, ACK delimiter and end of frame.
 FRAME_END = 10
 ERROR_DELIMITER = 8
-#: The bits of an attempt without a waiting frame.
+#: The number of bits of an attempt without a frame.
 IDLE = 11
 
 
 class Ending(enum.Enum):
-    """The end of an attempt: the error flag for a fault comes after the data, or after the CRC."""
+    """How an attempt ends. After a fault, the error flag comes after the data or after the CRC."""
 
     DONE = enum.auto()
     LAST_BIT = enum.auto()
@@ -35,26 +35,26 @@ class Ending(enum.Enum):
     AFTER_CRC = enum.auto()
 
 
-# The classes of attempts that destroy no frame, by their names in records.
+# The endings of attempts that destroy no frame, by their outcome in records.
 ENDINGS = {"done": Ending.DONE, "lastbit": Ending.LAST_BIT, "noack": Ending.NO_ACK}
 
 
 def ending_of(kind: str, verdict: str) -> Ending:
-    """Returns the end of an attempt of this class, by its verdict in a record: bit errors and stuff errors come
-    early."""
+    """Returns how an attempt with this outcome and this verdict ends. After bit errors and stuff errors the error flag comes early.
+    """
     early = Ending.AFTER_DATA if verdict.startswith(("global-bit", "local-stuff")) else Ending.AFTER_CRC
     return ENDINGS.get(kind, early)
 
 
 @dataclasses.dataclass(frozen=True)
 class Rates:
-    """The bit rates of a bus: FD frames with BRS switch to the second rate, if there is one."""
+    """The bit rates of a bus. FD frames with BRS switch to the second rate, if the bus has one."""
 
     nominal: int
     fast: int | None = None
 
     def nanos(self, bits: tuple[int, int]) -> int:
-        """Returns the duration of bits at their rates, rounded up."""
+        """Returns the duration of bits at the nominal and at the data bit rate, rounded up."""
         nominal, fast = bits
         return math.ceil(
             fractions.Fraction(nominal * SECOND, self.nominal)
@@ -74,7 +74,7 @@ class Rates:
 
 
 def bits_to_data_end(frame: Frame) -> tuple[int, int]:
-    """Returns the number of bits from start of frame to the last data bit, by rate."""
+    """Returns the numbers of bits from start of frame to the last data bit, at both bit rates."""
     sender = Sender()
     length = len(frame.data) if frame.requests is None else frame.requests
     if frame.is_fd:
@@ -88,7 +88,7 @@ def bits_to_data_end(frame: Frame) -> tuple[int, int]:
 
 
 def attempt_bits(frame: Frame, ending: Ending) -> tuple[int, int]:
-    """Returns the number of bits of an attempt with the intermission, by rate."""
+    """Returns the numbers of bits of an attempt with intermission, at both bit rates."""
     nominal, fast = bit_counts(frame)
     if ending is Ending.DONE:
         return nominal + INTERMISSION, fast
@@ -102,12 +102,12 @@ def attempt_bits(frame: Frame, ending: Ending) -> tuple[int, int]:
     return nominal + 12 + ERROR_DELIMITER + INTERMISSION, fast
 
 
-# ---- a bus by priority
+# ---- the simulation of a bus
 
 
 @dataclasses.dataclass(frozen=True)
 class Release:
-    """A frame that a node queues at `time`, `late` after its due time; a node sends its frames in order."""
+    """A frame that a node queues at `time`, which is `late` after the due time. A node sends its frames in order."""
 
     time: int
     node: int
@@ -117,7 +117,7 @@ class Release:
 
 @dataclasses.dataclass(frozen=True)
 class Sent:
-    """A sent frame: its begin, its end of frame, and the time from which the next frame may begin."""
+    """A sent frame, with its start, its end of frame, and the time from which the next frame may begin."""
 
     release: Release
     begin: int
@@ -126,12 +126,12 @@ class Sent:
 
     @property
     def response(self) -> int:
-        """The response time: from the due time until the bus is free again."""
+        """Returns the response time, from the due time until the bus is free again."""
         return self.free - self.release.time + self.release.late
 
 
 def simulated(releases: Iterable[Release], rates: Rates) -> Iterator[Sent]:
-    """Returns the frames that a bus sends: at each begin the queue head with the lowest bits."""
+    """Yields the frames that a bus sends. At each start, the first frames of the queues compete, and the lowest bits win."""
     coming = sorted(releases, key=lambda release: release.time)
     queues: dict[int, list[Release]] = {}
     now = 0
@@ -150,19 +150,19 @@ def simulated(releases: Iterable[Release], rates: Rates) -> Iterator[Sent]:
         now = free
 
 
-# ---- response times by analysis
+# ---- the analysis of response times
 
 
 @dataclasses.dataclass(frozen=True)
 class Message:
-    """A message of a separate node: its frame, its period, and the most delay before it is queued."""
+    """The message of one node, with its frame, its period, and the longest delay before it is queued."""
 
     frame: Frame
     period: int
     jitter: int = 0
 
     def releases(self, node: int, offset: int, until: int, lateness: Sequence[int] = (0,)) -> Iterator[Release]:
-        """Returns the releases of the message before a time, each with the given delay."""
+        """Yields the releases of the message before a time. The delays are taken in turn from `lateness`."""
         for number, due in enumerate(range(offset, until, self.period)):
             late = lateness[number % len(lateness)]
             yield Release(due + late, node, self.frame, late)
@@ -173,9 +173,8 @@ def up(time: int, period: int) -> int:
 
 
 def worst_response(messages: Sequence[Message], place: int, rates: Rates) -> int:
-    """Returns the worst response time of a message, from the messages by falling priority (Davis, Burns, Bril and
-    Lukkien, "Controller Area Network (CAN) schedulability analysis: Refuted, revisited and revised", Real-Time Systems
-    35, 2007).
+    """Returns the worst response time of the message at this place. The messages are in falling priority (Davis, Burns, Bril and
+    Lukkien, "Controller Area Network (CAN) schedulability analysis: Refuted, revisited and revised", Real-Time Systems 35, 2007).
     """
     lengths = [rates.attempt_nanos(message.frame) for message in messages]
     bit = rates.nanos((1, 0))
@@ -203,7 +202,7 @@ def worst_response(messages: Sequence[Message], place: int, rates: Rates) -> int
 
 
 def use(messages: Sequence[Message], rates: Rates) -> fractions.Fraction:
-    """Returns the share of the time that these messages take."""
+    """Returns the share of time that these messages take on the bus."""
     return sum(
         (fractions.Fraction(rates.attempt_nanos(message.frame), message.period) for message in messages),
         fractions.Fraction(0),

@@ -1,7 +1,7 @@
-/* Benches of libcanbusd. With words it makes a bench of them, carries out the lines of its standard input, and writes
- * what they put out: NAMES ACK LIMIT AUTO_RESTART BITRATE DATA_BITRATE SHOWS_FAULTS FAULTS STEP, where STEP is how many
- * bytes a call takes at least, up to the end of a line. Without words it tests what is refused, and what a refusal
- * leaves. */
+/* Tests of the benches of libcanbusd. With arguments, the program makes a bench, carries out the lines of standard
+ * input, and writes their output. The arguments are NAMES ACK LIMIT AUTO_RESTART BITRATE DATA_BITRATE SHOWS_FAULTS
+ * FAULTS STEP. Each call takes at least STEP bytes, up to the end of a line. Without arguments, the program tests which
+ * calls are refused, and that a refusal keeps the state. */
 #include <canbusd.h>
 
 #include <stdio.h>
@@ -30,7 +30,7 @@ static canbusd_bench *made(void) {
     return bench;
 }
 
-/* Carries out lines: their code, the number of the wrong one, and what they put out. */
+/* Carries out lines, and checks the code, the number of the wrong line, and the output. */
 static void takes(canbusd_bench *bench, const char *lines, uint32_t code, size_t wrong, const char *output, int place) {
     char found[1000];
     size_t len = 99, line = 99;
@@ -54,14 +54,14 @@ static void a_wrong_line_keeps_the_others(void) {
     TAKES(bench, started, CANBUSD_OK, 0, greeted);
     TAKES(bench, "feed 1 < send 123 2 11 22 >\nattempt\nnonsense\ndrain 2\n", CANBUSD_BAD_LINE, 3,
           "tried can0 0 done can1 -\n");
-    /* The line after the wrong one was not carried out. */
+    /* The lines after the wrong one were not carried out. */
     TAKES(bench, "drain 2", CANBUSD_OK, 0, "2 < frame 123 0.000000 1122 >\n");
     TAKES(bench, "", CANBUSD_OK, 0, "");
     TAKES(bench, "session 1\n", CANBUSD_BAD_LINE, 1, "");
     TAKES(bench, "\nfeed 3 < stats >\n", CANBUSD_BAD_LINE, 2, "");
     TAKES(bench, "run 1\n", CANBUSD_BAD_LINE, 1, "");
     EQ(canbusd_bench_record(bench, text, sizeof text, &len), CANBUSD_OK);
-    /* The bus refuses to bring up an interface that is up, and its record says so. */
+    /* The bus refuses to bring up an interface that is already up. The record has an entry for that. */
     TAKES(bench, "up can0\nattempt\n", CANBUSD_BAD_LINE, 1, "");
     EQ(canbusd_bench_record(bench, NULL, 0, &again), CANBUSD_OK);
     EQ(again > len, 1);
@@ -71,7 +71,7 @@ static void a_wrong_line_keeps_the_others(void) {
     canbusd_bench_free(bench);
 }
 
-/* A line has 4,096 bytes at most, and lines 16,777,216 in all. */
+/* A line has at most 4,096 bytes, and the whole input at most 16,777,216. */
 static void lines_have_their_limits(void) {
     canbusd_bench *bench = made();
     size_t many = 16777217, len = 99, line = 99, end;
@@ -114,7 +114,7 @@ static void output_is_kept(void) {
     canbusd_bench_free(bench);
 }
 
-/* Makes none, with this code and this number of a line. */
+/* Checks that no bench is made, and that the code and the number of the line are these. */
 static void refuses(const char *names, canbusd_config config, uint32_t capacity, const char *faults, uint32_t code,
                     size_t wrong, int place) {
     canbusd_bench *bench = (canbusd_bench *)&config;
@@ -145,7 +145,7 @@ static void what_is_no_bench_is_refused(void) {
     REFUSES("can0", wrong, 256, NULL, CANBUSD_BAD_BIT_RATES, 0);
 }
 
-/* As many rules as a bus has, and one more. */
+/* A bus takes 64 rules, and refuses one more. */
 static void rules_have_their_limit(void) {
     canbusd_config config = CANBUSD_CONFIG;
     canbusd_bench *bench = NULL;
@@ -187,7 +187,7 @@ static void null_pointers_are_found(void) {
     canbusd_bench_free(NULL);
 }
 
-/* Two benches have nothing in common, and none keeps memory. */
+/* Two benches are independent, and both free their memory. */
 static void benches_are_apart(void) {
     int i;
     for (i = 0; i < 1000; i++) {
@@ -201,7 +201,7 @@ static void benches_are_apart(void) {
     }
 }
 
-/* Standard input whole. */
+/* Returns all of standard input. */
 static char *input(size_t *len) {
     char *text = NULL;
     size_t room = 0, more;
@@ -217,7 +217,7 @@ static char *input(size_t *len) {
     return text;
 }
 
-/* Writes what lines put out. */
+/* Writes the output of these lines. */
 static int writes(canbusd_bench *bench, const char *lines, size_t len) {
     char few[8], *all;
     size_t size = 0;

@@ -1,6 +1,5 @@
-/* What the calls of libcanbusd do and refuse. Expected values are those of linux/can.h, linux/can/error.h and
- * linux/can/raw.h, of ISO 11898-1 for counts of errors and lengths of frames, and of docs/DEFINITIONS.md for what is
- * refused when. */
+/* Tests of the calls of libcanbusd. The expected values follow linux/can.h, linux/can/error.h and linux/can/raw.h.
+ * Error counters and lengths of frames follow ISO 11898-1, and refusals follow docs/DEFINITIONS.md. */
 #include <canbusd.h>
 
 #include <linux/can.h>
@@ -42,7 +41,7 @@ static uint32_t opened(canbusd *bus, uint32_t iface) {
     return socket;
 }
 
-/* The header's numbers are the kernel's. */
+/* The layout of a frame and the constants are the same as in the kernel's headers. */
 static void is_as_linux(void) {
     EQ(sizeof(canbusd_frame), sizeof(struct canfd_frame));
     EQ(offsetof(canbusd_frame, len), offsetof(struct canfd_frame, len));
@@ -85,14 +84,14 @@ static void a_frame_goes_over_the_bus(void) {
     EQ(item.iface, 0);
     EQ(item.number, 0);
     EQ(item.moment, 1234567);
-    /* A socket does not get its own frame. */
+    /* A socket does not receive the frames that it sent. */
     EQ(canbusd_receive(bus, ecu, &item), CANBUSD_NOTHING);
     EQ(canbusd_attempt(bus, 1234567, &tried), CANBUSD_OK);
     EQ(tried.outcome, CANBUSD_IDLE);
     canbusd_free(bus);
 }
 
-/* Every shape of a frame that linux/can.h knows comes out as it went in; every other is refused. */
+/* A frame of every form in linux/can.h arrives unchanged. A frame of any other form is refused. */
 static void frames_keep_their_shape(void) {
     static const uint8_t lengths[] = {0, 1, 2, 3, 4, 5, 6, 7, 8, 12, 16, 20, 24, 32, 48, 64};
     canbusd *bus = made("can0,can1", usual());
@@ -128,7 +127,8 @@ static void frames_keep_their_shape(void) {
     canbusd_free(bus);
 }
 
-/* ISO 11898-1: a transmit error adds 8, so that 16 in a row make an interface passive and 32 take it off the bus. */
+/* ISO 11898-1: a transmit error adds 8. So 16 errors in a row make an interface error passive, and 32 make it bus off.
+ */
 static void errors_count(void) {
     canbusd_config config = CANBUSD_CONFIG;
     canbusd *bus;
@@ -175,8 +175,8 @@ static void errors_count(void) {
     canbusd_free(bus);
 }
 
-/* ISO 11898-1: 44 bits and 3 of intermission without data and stuff bits of 0x555; at 500 kbit/s 2 microseconds each.
- */
+/* ISO 11898-1: a frame 555 without data has 44 bits, its stuff bits and 3 bits of intermission. At 500 kbit/s a bit
+ * takes 2 microseconds. */
 static void bits_take_time(void) {
     canbusd_config config = CANBUSD_CONFIG;
     canbusd *bus;
@@ -194,7 +194,7 @@ static void bits_take_time(void) {
     EQ(made_here, 1);
     EQ(canbusd_receive(bus, to, &item), CANBUSD_OK);
     first = item.moment;
-    /* 44 bits and no more than a stuff bit in four. */
+    /* The frame has 44 bits, and at most one stuff bit for every four. */
     EQ(first >= 88 && first <= 110, 1);
     EQ(canbusd_run(bus, 100000, &made_here), CANBUSD_OK);
     EQ(made_here, 1);
@@ -269,8 +269,8 @@ static void limits_are_kept(void) {
     EQ(canbusd_send(bus, sockets[0], &frame, NULL), CANBUSD_NO_BUFFERS);
     frame.flags = CANBUSD_FDF;
     EQ(canbusd_send(bus, sockets[0], &frame, NULL), CANBUSD_FD_OFF);
-    /* 4 opens that are in no interface below 16 or have no capacity, 1 too many, 64, 3, 2 and 4 so far, but that of 16
-     * and of UINT32_MAX have no entry. */
+    /* The loop fills the record up to its limit of 80 entries. The calls above have entries too, except the opens of
+     * interface 16 and of UINT32_MAX. */
     for (i = 0; canbusd_attempt(bus, i, NULL) == CANBUSD_OK; i++)
         ;
     EQ(canbusd_attempt(bus, 99, NULL), CANBUSD_RECORD_FULL);
@@ -363,7 +363,7 @@ static void misuse_is_defined(void) {
     canbusd_free(bus);
 }
 
-/* Of a call that is refused each result is as before. */
+/* A refused call leaves its output parameters unchanged. */
 static void refused_calls_leave_their_results(void) {
     canbusd_config config = CANBUSD_CONFIG;
     canbusd *bus;
@@ -404,7 +404,7 @@ static void refused_calls_leave_their_results(void) {
     canbusd_free(bus);
 }
 
-/* Each code has a text of its own. */
+/* Each code has its own text. */
 static void codes_have_their_texts(void) {
     uint32_t code, other;
     for (code = CANBUSD_OK; code <= CANBUSD_TOO_LONG; code++) {
@@ -428,7 +428,7 @@ static void buses_do_not_grow(void) {
     }
 }
 
-/* Writes the record of a short run, for the audit. */
+/* Writes the record of a short run, which the test audits. */
 static void writes_its_record(const char *path) {
     canbusd_config config = CANBUSD_CONFIG;
     canbusd *bus;

@@ -1,4 +1,4 @@
-"""libcanbusd from C, C++ and Rust: its calls with sanitizers, its symbols, and the examples by CMake, meson and pkg-config."""
+"""libcanbusd from C, C++ and Rust: its calls under sanitizers, its symbols, and the examples with CMake, meson and pkg-config."""
 
 import os
 import re
@@ -34,7 +34,7 @@ def run(*words, **more):
 
 @pytest.fixture(scope="module")
 def installed(tmp_path_factory):
-    """Installs the library; returns the folder."""
+    """Installs the library, and returns the folder."""
     prefix = tmp_path_factory.mktemp("prefix")
     run(ROOT / "scripts" / "library", "install", prefix)
     return prefix
@@ -50,7 +50,7 @@ def environment(prefix):
 
 
 def checked(source, to):
-    """A program over the static library, under the sanitizers."""
+    """Compiles a program with the static library, under sanitizers."""
     checks = ["-D_GNU_SOURCE", "-g", "-O1", "-fsanitize=address,undefined", "-fno-sanitize-recover=all"]
     run("gcc", *STRICT, *checks, "-I", HEADER.parent, HERE / source, OUT / "libcanbusd.a", "-o", to)
     return to
@@ -62,18 +62,18 @@ def benches(tmp_path_factory):
 
 
 def test_calls_of_benches(benches):
-    """What they refuse, what a refusal leaves, and their misuse as far as that is defined."""
+    """Benches refuse wrong calls and keep their state. Misuse is tested as far as it is defined."""
     run(benches)
 
 
-# Bit rates of a bus by its name are words of a command line.
+# A bit rate by name of a bus exists only on the command line, so these cases are left out.
 CASES = [case for case in named_cases() if "=" not in " ".join(case.values[0].words)]
 
 
 @pytest.mark.parametrize("step", (1, 1000000), ids=("line by line", "at once"))
 @pytest.mark.parametrize("case", CASES)
 def test_a_bench_puts_out_what_the_rules_give(benches, case, step):
-    """The cases of tests/bench, of which one call takes a line or all."""
+    """A bench of the library gives the expected output of each case in tests/bench, whether a call takes one line or all lines."""
     found = dict(zip(case.words, case.words[1:]))
     names, _, script = case.words[-1].partition("@")
     words = [names, {"peers": 1}.get(found.get("--ack"), 0), found.get("--limit", 1000000)]
@@ -83,7 +83,7 @@ def test_a_bench_puts_out_what_the_rules_give(benches, case, step):
 
 
 def test_calls(tmp_path):
-    """Each call, and its misuse as far as that is defined, under the sanitizers; its record is audited."""
+    """Every call works under sanitizers, and so does misuse as far as it is defined. The audit accepts the record."""
     run(checked("calls.c", tmp_path / "calls"), tmp_path / "run.rec")
     program = os.environ.get("CANBUSD") or ROOT / "canbusd"
     assert re.fullmatch(r"ok \d+ entries\n", run(program, "audit", tmp_path / "run.rec"))

@@ -1,8 +1,7 @@
-"""Definitions and clauses are readable: a reader must believe the definitions that contracts cite, so their lines are
-short.
+"""Definitions and clauses are readable: a reader has to trust the definitions that contracts cite, so their lines are short.
 
-Widths are in characters: 120 in a crate's specs/, 100 in a clause of its sources. A definition has at most 25 lines,
-but for tables with a line for each case.
+A line has at most 120 characters in specs/ of a crate, and 100 in a clause of the sources. A definition has at most 25 lines,
+except for tables that have a line for each case.
 """
 
 import glob
@@ -15,7 +14,7 @@ from serving import ROOT
 CRATES = os.path.join(ROOT, "crates")
 DEFINITION = re.compile(r"(?:(?:abbrev|unfoldable)(?: pub)?|pub data|pub record) (\S+)")
 CLAUSE = re.compile(r"\s*(?:requires|ensures|ghost (?!use ))")
-# The tables with a line for each case, field or step.
+# These tables have a line for each case, field or step.
 TABLES = {"Headline", "arguments_of", "cause_text", "entry_in", "named"}
 
 
@@ -33,8 +32,7 @@ def sources() -> List[str]:
 
 
 def clause_lines(lines: List[str]) -> Iterator[Tuple[int, str]]:
-    """Yields the lines of clauses with their numbers: each clause goes from its first word to the brace that closes
-    it."""
+    """Yields the numbered lines of clauses. A clause begins at its first word, and ends at its closing brace."""
     open_braces = 0
     for number, line in enumerate(lines, 1):
         if open_braces or CLAUSE.match(line):
@@ -43,8 +41,8 @@ def clause_lines(lines: List[str]) -> Iterator[Tuple[int, str]]:
 
 
 def definitions(lines: List[str]) -> Iterator[Tuple[str, int]]:
-    """Yields each definition with the number of its lines: it ends before an empty line, a comment at its left, or
-    another definition."""
+    """Yields each definition with its number of lines. A definition ends before an empty line, a comment without indentation, or
+    the next definition."""
     name, count = "", 0
     for line in lines + [""]:
         found = DEFINITION.match(line)

@@ -1,7 +1,7 @@
-"""The numbers that our definitions and our code take from Linux, compared with the installed headers.
+"""The numbers that the definitions and the code take from Linux equal those of the installed headers.
 
-Frames, masks and filters use them in their own ways, so their texts are listed; those of error message frames have
-the names of linux/can/error.h, in the definitions and in the code. A mask of n bits is the limit 2 ^ n there.
+Frames, masks and filters use these numbers in various ways, so the test lists the texts. Error message frames use the names of
+linux/can/error.h, in the definitions and in the code. There, a mask of n bits is the limit 2 ^ n.
 """
 
 import os
@@ -15,7 +15,7 @@ from serving import ROOT
 
 HEADERS = ["linux/can.h", "linux/can/raw.h", "linux/can/error.h"]
 COMPILER = shutil.which(os.environ.get("CC", "gcc"))
-# For each constant the number that canbusd uses, and the texts that contain it.
+# For each constant, the number in canbusd and the texts that use it.
 USES = [
     ("CAN_EFF_FLAG", 0x80000000, "can_frame/specs/Frames.antt", "f.id.extended then 2 ^ 31"),
     ("CAN_EFF_FLAG", 0x80000000, "can_frame/src/frame.rt", "0x8000_0000"),
@@ -43,14 +43,14 @@ def read(path):
 
 
 def in_code():
-    """Returns the numbers of error message frames by name, from the code."""
+    """Returns the numbers for error message frames in the code, by name."""
     found = re.findall(r"pub const (CAN_ERR_\w+): u(?:8|32) = (\w+);", read("can_errframe/src/codes.rt"))
     return {name: int(number, 16) for name, number in found}
 
 
 def in_definitions():
-    """Returns the same numbers from the definitions, whose names lack a part: err_crtl, crtl_active, prot_bit,
-    loc_ack."""
+    """Returns the numbers for error message frames in the definitions, by name. These names are shorter: err_crtl, crtl_active,
+    prot_bit, loc_ack."""
     prefixes = {"err": "CAN_", "crtl": "CAN_ERR_", "prot": "CAN_ERR_", "loc": "CAN_ERR_PROT_"}
     found = re.findall(r"^((\w+?)_\w+) = (0x\w+)$", read("can_errframe/specs/ErrorCodes.antt"), re.M)
     return {prefixes[kind] + name.upper(): int(number, 16) for name, kind, number in found}
@@ -58,7 +58,7 @@ def in_definitions():
 
 @pytest.fixture(scope="module")
 def headers(tmp_path_factory):
-    """Returns the constants from the headers, which a compiled program prints."""
+    """The values of the constants in the headers, which a compiled program prints."""
     if not COMPILER:
         pytest.skip("no C compiler: gcc")
     folder = tmp_path_factory.mktemp("headers")
@@ -77,20 +77,20 @@ def headers(tmp_path_factory):
 
 @pytest.mark.parametrize("name, number, path, text", USES)
 def test_frames_and_filters(headers, name, number, path, text):
-    """the number equals that of the headers, and the text is in the file"""
+    """The number equals that of the headers, and the file contains the text."""
     assert headers.get(name, number) == number
     assert text in read(path)
 
 
 @pytest.mark.parametrize("ours", [in_code(), in_definitions()], ids=["code", "definitions"])
 def test_error_message_frames(headers, ours):
-    """each number equals that of the headers, if they have it"""
+    """Each number equals that of the headers, unless the headers lack it."""
     assert len(ours) >= 20
     wrong = {name: number for name, number in ours.items() if headers.get(name, number) != number}
     assert not wrong
 
 
 def test_definitions_are_those_of_the_code():
-    """both have the same numbers by the same names"""
+    """The definitions and the code have the same numbers by the same names."""
     code, definitions = in_code(), in_definitions()
     assert {name: code.get(name) for name in definitions} == definitions

@@ -1,7 +1,7 @@
-"""The bits of frames on the wire: the model that our numbers come from, and the places that have these numbers.
+"""The bits of frames on the wire: the model that canbusd's numbers come from, and the places that use these numbers.
 
-The model is compared with what catalogues of CRCs say, with long division, and with the fewest and most bits that the
-fields of a frame allow. The tests of can_unit_tests and the laws of can_wire have its numbers.
+The model agrees with catalogues of CRCs, with long division, and with the smallest and largest number of bits that the fields of a
+frame allow. The tests of can_unit_tests and the laws of can_wire have the model's numbers.
 """
 
 from __future__ import annotations
@@ -17,7 +17,7 @@ from serving import ROOT
 from wire_model import Frame, bit_counts, crc, data_bits, number_bits, random_frames, sent
 
 CRCS = [(15, 0x4599, 0x059E), (17, 0x1685B, 0x04F03), (21, 0x102899, 0x0ED841)]
-# The frames of the law `known_frames_have_their_bits` (specs/Known.antt).
+# The frames in the law `known_frames_have_their_bits` (specs/Known.antt).
 KNOWN = [
     Frame.read("123#11223344"),
     Frame.read("1ABCDEF0##3000102"),
@@ -31,7 +31,7 @@ def read(*path: str) -> str:
 
 
 def remainder(bits: Sequence[int], width: int, polynomial: int) -> list[int]:
-    """Returns the remainder of the long division of the bits with zeros after them."""
+    """Returns the remainder of the long division of the bits, followed by zeros."""
     rest = int("".join(map(str, bits)), 2) << width
     for place in reversed(range(len(bits))):
         if rest >> (place + width) & 1:
@@ -57,14 +57,14 @@ def test_bounds_of_classic_frames() -> None:
 
 
 def test_stuffed_bits() -> None:
-    """no six bits in a row are equal before the end of the CRC"""
+    """Before the end of the CRC, no six consecutive bits are equal."""
     for frame in [*random_frames(5, 1000, False, 8), *random_frames(6, 1000, True, 64)]:
         text = "".join(map(str, sent(frame).bits[:-10]))
         assert not re.search("0{6}|1{6}", text), str(frame)
 
 
 def test_tables() -> None:
-    """the random frames of the tests have the numbers of the model"""
+    """The random frames in the tests have the model's numbers of bits."""
     text = read("tests", "rattle", "can_unit_tests", "tests", "wire.rtt")
     classic = re.findall(r'\("([0-9A-FR#]+)", (\d+)\),', text)
     for frame, nominal in classic:
@@ -76,7 +76,7 @@ def test_tables() -> None:
 
 
 def test_known_frames() -> None:
-    """the law has the bits of the model"""
+    """The frames of the law have the model's bits."""
     law = read("crates", "can_wire", "src", "laws.rt").split("known_frames_have_their_bits")[1].split("{}")[0]
     texts = re.findall(r"low_bits (\d+) 0x([0-9A-F]+)", law)
     assert [number_bits(int(number, 16), int(count)) for count, number in texts] == [
