@@ -107,4 +107,4 @@ def test_what_apt_get_did_not_install(tmp_path):
 @pytest.mark.parametrize("words", [["--no"], ["most"], ["check", "all"], ["--yes", "--list"]])
 def test_words_that_are_none(tmp_path, words):
     status, written, said = Machine(tmp_path, []).setup(*words)
-    assert (status, written) == (2, "") and said.startswith("The packages of Debian or Ubuntu ")
+    assert (status, written) == (2, "") and said.startswith("Installs the Debian or Ubuntu packages ")
