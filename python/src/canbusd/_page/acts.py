@@ -233,7 +233,7 @@ def value_words(text: str) -> str:
 
 
 def on_bus(line: str, bus: CanbusdBus, is_fd: bool = False) -> str:
-    """Appends a comment that defines `bus` to a line of Python."""
+    """Returns a line of Python, followed by a comment that defines `bus`."""
     return f"{line}  # bus = server.bus({quoted(bus.channel)}{', fd=True' if is_fd else ''})"
 
 

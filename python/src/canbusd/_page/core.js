@@ -7,7 +7,7 @@ const KIND_WORDS = ["done", "last bit", "destroyed", "no acknowledgement", "rest
 const RESTART = 4, DOWN = 5, IDLE = 6;
 const STATES = ["active", "warning", "passive", "off", "down"];
 const IS_OFF = 3, IS_DOWN = 4;
-// The names of states in CAN documents. Their space is non-breaking.
+// The names of states as in CAN documents, with a non-breaking space.
 const stateWords = state => ({ off: "bus\u00a0off", down: "down" })[state] || `error\u00a0${state}`;
 const LIMITS = [[96, "warning"], [128, "passive"], [256, "bus off"]];
 const WARNING = 96, PASSIVE = 128, OFF = 256;

@@ -123,7 +123,7 @@ function waitingArea(plot, queue, left, top, height, most) {
   }
 }
 // Draws the states of a node. Error active is a line, and each other state is a bar with the name of the state. Error
-// warning is an outline, or a low bar if it is short. Each pixel shows the worst state in its time.
+// warning is an outline, or a low bar if it is short. Each pixel shows the worst state that occurs there.
 function band(plot, tec, rec, top, fills, down) {
   const { pen } = plot, worst = new Uint8Array(plot.width);
   pixels(plot, tec, (x, _, high) => { worst[x] = severity(high); });
@@ -161,7 +161,7 @@ function plate(pen, texts, x, wide, y, back, tint) {
 }
 
 // The lane of a node: its attempts, its state, its error counters and its queue. The counters and the queue are folded
-// if they hardly change.
+// if the error counts stay 0, the queue never holds two frames, and the node is never down.
 
 class NodeLane {
   constructor(number, name, columns, strip) {
@@ -270,7 +270,7 @@ function rounded(from, to, most, least) {
   return { each, found };
 }
 
-// If a name is too long, its middle part is cut off, because names mostly differ at the end.
+// A name that does not fit is shortened before its last five characters, because names mostly differ at the end.
 const nameParts = name => name.length < 9 ? name : [element("span", name.slice(0, -5)), element("span", name.slice(-5))];
 // Builds the column to the left of the lanes, with the names of the lanes and the values at the chosen step.
 function buildGutter() {

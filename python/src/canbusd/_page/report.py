@@ -73,7 +73,7 @@ class Block:
         return [code, self._add(b"".join(text[first :: column.itemsize] for first in firsts)), len(column)]
 
     def text(self, text: bytes) -> Column:
-        """Adds a string as a column of its bytes."""
+        """Adds encoded text as a column of bytes."""
         return ["B", self._add(text), len(text)]
 
     def packed(self, header: Json) -> str:
@@ -103,8 +103,8 @@ class Timeline:
         self.places: Sequence[int] = range(len(self.steps))
         #: The rows of idle attempts, each with the number of attempts that it stands for.
         self.idle: list[tuple[int, int]] = []
-        # Slices of the steps that yield the rows: each slice but the last repeats its last step, which stands for the
-        # row of idle attempts before that step.
+        # Slices of a column of steps that together yield the column of rows. In each slice but the last, the last
+        # number is for the row of idle attempts before that step.
         self._pieces: list[slice] = []
         if run.idle:
             self._place_idle([*self.steps.idle, run.idle_since])

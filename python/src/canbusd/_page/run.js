@@ -1,6 +1,6 @@
 // The page of a run. The data contain the results of the replay in columns, and this script only shows them.
 
-// The kinds of events, from worst to least bad.
+// The kinds of events, most severe first.
 const EVENTS = ["bus off", "down", "lost", "dropped", "refused", "passive", "warning", "active", "restart", "second copy"];
 const FATES = ["taken", "waiting", "unread", "dropped"];
 const FATE_WORDS = ["taken by the client", "waiting at the end", "unread at the close", "dropped: no room"];

@@ -2,7 +2,7 @@
 
 const { names, source, isDecoded, isTimed, messages = [] } = JSON.parse(at("run").textContent);
 const MOST = 4000, MOST_TICKS = 2400, FOLLOWED = 60;
-// The kinds of events, from worst to least bad.
+// The kinds of events, most severe first.
 const EVENTS = ["bus off", "error passive", "error warning", "error active", "restarted", "no acknowledgement",
   "bus error"];
 const QUEUE = 5, SENT_DONE = 4;
