@@ -213,7 +213,8 @@ def items_of(items: Items, most: int, timeline: Timeline, block: Block) -> Json:
         # 0 if the item is the frame of the step, otherwise the index of an error message frame in `texts`.
         "error": block.column("I", items.errors[:most]),
         "fate": block.column("B", items.fates()[:most]),
-        # The first row in which the item is no longer in its queue. 0 if it stays in the queue, or never entered it.
+        # The first row in which the item is no longer in its queue, or 0 if the item stays in the queue or never
+        # entered it.
         "end": block.column("I", ends),
     }
 
@@ -291,8 +292,8 @@ def fault_of(fault: str, names: Sequence[str]) -> str:
 
 
 def fullest_socket(run: Replay) -> int:
-    """Returns the number of the socket that dropped the most items. If none dropped any, returns the socket with the
-    most items."""
+    """Returns the number of the socket that dropped the most items. If no socket dropped any, returns the socket that
+    received the most items."""
     worst = max(run.sockets, key=lambda socket: (socket.dropped, socket.queued), default=None)
     return worst.number if worst else 0
 

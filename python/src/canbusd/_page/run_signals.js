@@ -1,4 +1,4 @@
-// The signals in all frames that the run tried, and the steps in which each message was sent.
+// The signals in all frames that the run tried to send, and the steps in which each message was sent.
 
 const sentIn = new Map(), MOST_CURVES = 4;
 on("taken", () => {

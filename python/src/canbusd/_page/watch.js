@@ -44,7 +44,7 @@ function fewer(all) {
   });
   return kept.reverse();
 }
-// Counts the attempts since the previous tick: successful ones, and failed ones that were reported.
+// Counts the attempts since the previous tick: the successful ones, and the failed ones that were reported.
 function takeTick(tick) {
   const before = ticks.length ? ticks[ticks.length - 1] : tick;
   tick.wins = names.map((_, i) => [Math.max(0, tick.ifaces[i][SENT_DONE] - before.ifaces[i][SENT_DONE]), ...tick.faults[i]]);

@@ -21,8 +21,8 @@ kill -s KILL -- "-$program" "$program"
 
 
 class Guard:
-    """The guard of a program that leads a process group. It starts before the program, so that the program is never
-    without a guard."""
+    """The guard of a program that leads a process group. The guard starts before the program, so that the program is
+    never without a guard."""
 
     def __init__(self) -> None:
         null = subprocess.DEVNULL

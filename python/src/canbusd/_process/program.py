@@ -1,4 +1,4 @@
-"""The program `canbusd`: finding it, running it, and its verdict on a record."""
+"""The program `canbusd`: finds it, runs it, and returns its verdict on a record."""
 
 import os
 import shutil

@@ -8,8 +8,8 @@ from canbusd._words import NUMBERS
 
 LEAST_BITRATE, MOST_BITRATE = NUMBERS["bitrate"][1:3]
 MOST_DBITRATE = NUMBERS["data_bitrate"][2]
-#: A bit rate for all buses, or a bit rate for each bus, by the name of one of its interfaces. The rate for None applies
-#: to all other buses.
+#: A bit rate for all buses, or a mapping with a bit rate for each bus, by the name of one of its interfaces. The rate
+#: for None applies to all other buses.
 BitRate = Union[int, Mapping[Optional[str], int]]
 
 

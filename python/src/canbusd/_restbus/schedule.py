@@ -16,8 +16,8 @@ TRIES = 128
 
 
 class Schedule:
-    """Calls sorted by due time. Calls that are due at the same time are sorted by `order`, and then by when they were
-    added."""
+    """Calls sorted by due time. Calls that are due at the same time are sorted by `order`, and then by the time when
+    they were added."""
 
     def __init__(self) -> None:
         self._heap: list[tuple[int, int, int, Callable[[int], None]]] = []

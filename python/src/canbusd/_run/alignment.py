@@ -26,8 +26,8 @@ class Sent(NamedTuple):
 
 
 class Pair(NamedTuple):
-    """A frame of the first run and the same frame of the second run. One of the two is None if only one run has the
-    frame."""
+    """A frame of the first run and the matching frame of the second run. One of the two is None if only one run
+    contains the frame."""
 
     one: Optional[Sent]
     other: Optional[Sent]

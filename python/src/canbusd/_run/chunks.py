@@ -27,7 +27,7 @@ class Loss(NamedTuple):
 
     step: int
     frames: int
-    #: How many frames left the queue in earlier steps of these lines. None at bus off, where the first lost frame is
+    #: How many frames left the queue in earlier steps of these lines. None for bus off, when the first lost frame is
     #: the frame of the step.
     gone: Optional[int]
 
@@ -61,8 +61,7 @@ class Chunk:
     #: The lines of accepted sends without the final LF, and the interface of each send.
     sends: str
     senders: bytes
-    #: Maps each socket to a column with one number for each item that was taken from it: the number of steps before
-    #: that.
+    #: For each socket, a column with an entry for each item that was taken from it: how many steps preceded this.
     taken: "dict[int, array[int]]"
     kinds: "array[int]" = column("B")
     ifaces: "array[int]" = column("B")
@@ -96,7 +95,7 @@ class Chunk:
     #: The steps with a local fault, each with the set of interfaces that see the fault.
     local: list[tuple[int, int]] = field(default_factory=list)
     lost: list[Loss] = field(default_factory=list)
-    #: The socket and the step of each item that was handed to a socket, and the number of items for each socket.
+    #: The socket and the step of each item that was handed to a socket, and how many items each socket was handed.
     item_sockets: bytes = b""
     item_steps: "array[int]" = column("I")
     handed: dict[int, int] = field(default_factory=dict)
@@ -114,8 +113,8 @@ class Reader:
         # The interface of each socket that was opened so far.
         self._sockets: list[int] = []
         self._outcomes = Outcomes(self._sockets)
-        # One number combines the counts of waiting frames at all interfaces. This list has the increment for one frame
-        # at each interface.
+        # One integer combines the counts of waiting frames at all interfaces. This list contains the increment of this
+        # integer for one frame at each interface.
         self._units = [1 << WAITING_BITS * iface for iface in range(bus.ifaces)]
         self._waiting = Waiting(bus.ifaces)
 
@@ -230,7 +229,7 @@ def drops_of(part: Parts, step: int, end: int, is_frame: bool) -> Iterable[Drop]
 
 
 def gone_before(found: Chunk, left: Sequence[int], step: int) -> Optional[int]:
-    """Returns how many frames left the queue of an interface in earlier steps if the interface goes down in this step.
+    """Returns how many frames left the queue of an interface in earlier steps, if the interface goes down in this step.
     Returns None for other steps."""
     if found.kinds[step] != DOWN:
         return None
@@ -238,7 +237,7 @@ def gone_before(found: Chunk, left: Sequence[int], step: int) -> Optional[int]:
 
 
 def opened_in(lines: Iterable[str]) -> Iterable[int]:
-    """Yields the interface of each socket that the lines open."""
+    """Yields the interface of each socket that is opened in these lines."""
     for line in lines:
         if line.startswith("open "):
             iface, _, _, reply = line.split(" ")[1:5]
@@ -247,11 +246,12 @@ def opened_in(lines: Iterable[str]) -> Iterable[int]:
 
 
 def taken_in(lines: Lines, sockets: int) -> "dict[int, array[int]]":
-    """Maps each socket to a column with one number for each item that was taken from it: the number of steps before
-    that. `sockets` is the number of sockets."""
+    """For each socket, returns a column with an entry for each item that was taken from it: how many steps preceded
+    this. `sockets` is the number of sockets."""
     # The last column collects the receives that returned no item. It is not returned.
     columns = [array("I") for _ in range(sockets + 1)]
     takers = map(columns.__getitem__, receivers_of(lines.of(RECEIVE), sockets))
-    # This appends a number for each line. A deque with a maximum length of 0 is the fastest way to consume an iterator.
+    # This line appends a number to a column for each receive. A deque with a maximum length of 0 is the fastest way to
+    # consume an iterator.
     deque(map(array.append, takers, lines.steps_before(RECEIVE)), maxlen=0)
     return {socket: column for socket, column in enumerate(columns[:-1]) if column}

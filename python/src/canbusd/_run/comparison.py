@@ -16,7 +16,7 @@ from canbusd._text import times
 from canbusd.record import Attempt, Record, attempts_of, is_named, number_named
 
 Kind = Literal["only here", "only there", "other data", "other outcome", "later", "earlier", "restarts", "downs"]
-#: The tolerance for the times of a frame, in seconds. Times are relative to the first frame of each run.
+#: The tolerance in seconds for the times of a frame. Times are relative to the first frame of each run.
 TOLERANCE = 0.01
 # The maximum number of differences that `lines` lists.
 MOST_LISTED = 1000
@@ -59,7 +59,8 @@ def names_of_both(one: Record, other: Record) -> tuple[Sequence[str], Sequence[s
 
 
 class Comparison:
-    """Two runs, with names for comparing them. `title` is the title of the second run on a page."""
+    """Two runs, with the interface names that are used to compare them. `title` is the title of the second run on a
+    page."""
 
     def __init__(self, one: Record, other: Record, title: str = "", tolerance: float = TOLERANCE) -> None:
         self.records, self.title, self.tolerance = (one, other), title, tolerance
@@ -130,7 +131,7 @@ class Comparison:
         if ends[0] != ends[1]:
             kinds.append(("other outcome", f"{ends[0]} against {ends[1]}"))
         else:
-            # A frame that a node missed during its outage is not a separate difference.
+            # If a node missed a frame during its outage, this is not a separate difference.
             gone = self._away[0][one.first] | self._away[1][other.first]
             takers = accepted(self.one, one, gone), accepted(self.other, other, gone)
             if takers[0] != takers[1]:
@@ -189,8 +190,8 @@ class Comparison:
         return f"No difference in {times(len(self.one), 'attempt')}"
 
     def lines(self) -> list[str]:
-        """Returns the heading and the differences as lines. A line starts with `-` if only the first run has the frame,
-        `+` if only the second run has it, and `!` if both have it."""
+        """Returns the heading and the differences as lines. A line starts with `-` if only the first run contains the
+        frame, `+` if only the second run contains it, and `!` if both contain it."""
         more = len(self.differences) - MOST_LISTED
         lines = [one.line() for one in self.differences[:MOST_LISTED]]
         return [self.heading(), *lines, *([f"and {times(more, 'difference')} more"] if more > 0 else [])]

@@ -14,7 +14,7 @@ LIMITS = [(OFF, "bus off"), (PASSIVE, "error passive"), (WARNING, "error warning
 
 
 def counters(record: Record, first: int, last: int) -> Iterator[str]:
-    """Draws both error counters of each interface over the attempts `first` to `last`, and yields the lines."""
+    """Draws both error counters of each interface from attempt `first` to attempt `last`, and yields the lines."""
     run, steps = record.replay, record.replay.steps
     begin, end = bisect.bisect_left(steps.attempts, first), bisect.bisect_right(steps.attempts, last)
     rows = [steps.counts_after(begin - 1) if 0 < begin < end else ((0, 0),) * len(run.ifaces)]

@@ -1,4 +1,4 @@
-"""Groups the lines of a run's events by kind, because a few kinds have millions of lines."""
+"""Groups the event lines of a run by kind, because a few kinds have millions of lines."""
 
 import itertools
 import operator

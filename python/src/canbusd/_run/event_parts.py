@@ -27,7 +27,7 @@ class Parts(NamedTuple):
 
 
 class Outcome(NamedTuple):
-    """The outcome of a step, from the part of its line after the frame."""
+    """The outcome of a step, parsed from the part of its line after the frame."""
 
     #: The kind of the step.
     kind: int

@@ -37,10 +37,11 @@ class BadRecord(ValueError):
 
 
 class Events:
-    """An audit of a record. The caller passes the record, at once or in pieces, or the program reads it from a file.
+    """An audit of a record. Either the caller passes the record, at once or in pieces, or the program reads it from a
+    file.
 
-    With `cut` the record may lack its last line, `end`. With bit rates the lines include the times of attempts on the
-    wire. With `faults`, such as `can0,can1@FILE`, the lines include the rule of that script that gave an attempt its
+    With `cut` the record may lack its last line, `end`. With bit rates, the lines include the times of attempts on the
+    wire. With `faults`, such as `can0,can1@FILE`, the lines include the rule from that script that gave an attempt its
     verdict.
     """
 
@@ -83,9 +84,9 @@ class Events:
     def texts(self, text: bytes, is_last: bool = True, doubt: Callable[[], object] = lambda: None) -> Iterator[str]:
         """Yields the event lines for these lines of the record: several at once, without the final LF.
 
-        Each line of the record has an event line, except that the first two lines share one. `end` has one only if
-        `is_last` is true. Raises BadRecord at the first wrong line. The program reports a wrong line only after it has
-        read everything. So `doubt` is called after each second without a line.
+        Each line of the record has an event line, except that the first two lines share one. The line `end` has one
+        only if `is_last` is true. Raises BadRecord at the first wrong line. The program reports a wrong line only after
+        it has read everything, so `doubt` is called after each second without an event line.
         """
         assert self._input is not None
         unwritten = memoryview(text)

@@ -1,4 +1,4 @@
-"""Finds the fault rule that gave each attempt of a run its verdict. The program reports these rules if it gets the
+"""Finds the fault rule that gave each attempt of a run its verdict. The program reports these rules if it is given the
 run's faults."""
 
 import contextlib
@@ -184,13 +184,14 @@ def bus_with(names: Sequence[str], text: bytes) -> Iterator[str]:
     with tempfile.NamedTemporaryFile() as script:
         script.write(text)
         script.flush()
-        # An interface without a name, here called `interface 1`, gets the program's own name for it: spaces become
-        # hyphens.
+        # An interface without a name is called `interface 1` here. The program's own name for it has hyphens instead of
+        # spaces.
         yield f"{','.join(names).replace(' ', '-')}@{script.name}"
 
 
 def unused_rules(names: Sequence[str], faults: FaultsFile) -> list[Rule]:
-    """Returns the rules with a count, such as `next 1 ..`, that gave no attempt its verdict and that no command ended.
+    """Returns the rules with a count, such as `next 1 ..`, that were neither used for an attempt nor ended by a
+    command.
 
     `faults` is the file that a server wrote next to a complete record.
     """
@@ -243,12 +244,12 @@ class TakenRules:
         return line
 
     def deciders(self) -> list[str]:
-        """Returns the rule of each attempt, like the module's function `deciders`."""
+        """Returns the rule of each attempt, as the module's function `deciders` does."""
         texts = {number: str(parse_rule(self._words[number])) for number in {*self._numbers} - {0}}
         return [texts.get(number, "") for number in self._numbers] if texts else []
 
     def unused(self) -> list[Rule]:
-        """Returns the rules with a count that gave no attempt its verdict and that no command ended."""
+        """Returns the rules with a count that were neither used for an attempt nor ended by a command."""
         left = {*range(self._first, len(self._words) + 1)}.difference(self._numbers)
         rules = (parse_rule(self._words[number]) for number in sorted(left))
         return [rule for rule in rules if rule.count is not None]

@@ -1,4 +1,4 @@
-"""Reads logs in candump's format, as a server and a bench write them next to their records."""
+"""Reads logs in candump's format. Servers and benches write such logs next to their records."""
 
 import itertools
 import os

@@ -106,7 +106,7 @@ def check_lines(path: Path) -> None:
 
 
 def python_can_messages(path: Path) -> "Iterator[Any]":
-    """Yields the messages of a log that python-can reads."""
+    """Yields the messages of a log in one of python-can's formats."""
     import canbusd._python_can  # noqa: F401  it says what is missing
 
     can_io: Any = importlib.import_module("can.io")
@@ -161,7 +161,7 @@ def write_candump(file: BinaryIO, entries: Iterable[Entry]) -> int:
 
 
 def write_pcapng(file: BinaryIO, entries: Iterable[Entry], known: Sequence[str]) -> int:
-    """Writes a capture for Wireshark that begins with the known interfaces. Returns the number of its frames."""
+    """Writes a capture for Wireshark that begins with the interfaces in `known`. Returns the number of its frames."""
     capture = Capture(file, [(name, 0) for name in known])
     count = 0
     for name, frame in entries:

@@ -38,8 +38,8 @@ class Capture:
         file.write(begin + b"".join(self._interface(name, bitrate) for name, bitrate in interfaces))
 
     def write(self, packets: Iterable[Packet]) -> None:
-        """Writes frames, each with its interface and its direction. An interface that is not in the capture yet is
-        added."""
+        """Writes frames, each with its interface and its direction. An interface that is not yet in the capture is
+        added to it."""
         blocks = []
         for name, frame, way in packets:
             if name not in self._numbers:
@@ -73,8 +73,8 @@ def block(kind: int, body: bytes, *options: bytes) -> bytes:
 
 
 def socketcan(frame: Frame) -> bytes:
-    """Returns a frame in the form of the link type: the identifier in network byte order, the length, the flags and the
-    data."""
+    """Returns a frame in the format of the link type: the identifier in network byte order, the length, the flags and
+    the data."""
     identifier = frame.arbitration_id
     identifier |= ERROR if frame.is_error_frame else EXTENDED if frame.is_extended_id else 0
     identifier |= REMOTE if frame.is_remote_frame else 0

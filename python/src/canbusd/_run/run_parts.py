@@ -1,4 +1,4 @@
-"""The parts of a bus after all events of its run: its configuration, its interfaces and its sockets."""
+"""The parts of a bus at the end of its run: its configuration, its interfaces and its sockets."""
 
 from array import array
 from dataclasses import dataclass
@@ -46,14 +46,15 @@ class Socket:
 
     def __init__(self, number: int, iface: int, capacity: int) -> None:
         self.number, self.iface, self.capacity = number, iface, capacity
-        #: The last step before the socket was closed, or -1 if there was no earlier step. None if the socket is open.
+        #: The last step before the socket was closed, or -1 if it was closed before the first step. None if the socket
+        #: is open.
         self.closed_after: Optional[int] = None
         # When the socket started or stopped receiving error message frames: the number of steps before each change, and
         # whether it receives them after the change.
         self._takes_errors = [(0, False)]
         #: The number of items for the socket, and how many of them were dropped because its queue was full.
         self.handed = self.dropped = 0
-        #: For each item that was taken, the number of steps before that.
+        #: For each item that was taken, how many steps preceded this.
         self.taken_after = array("I")
 
     def set_errors(self, steps: int, is_taken: bool) -> None:
@@ -90,7 +91,7 @@ class Interface:
         self.unit = 1 << WAITING_BITS * number
         self.tec = self.rec = 0
         self.is_down = False
-        #: The event line of the send of each waiting frame.
+        #: The event lines of the sends whose frames are waiting.
         self.queue: list[str] = []
         #: The number of frames that left the queue, and how many of them were removed because the interface went bus
         #: off or down.

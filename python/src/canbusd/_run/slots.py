@@ -11,7 +11,7 @@ from typing import NamedTuple
 from canbusd._run.steps import RESTART, moment_of
 from canbusd.replay import Replay
 
-# A frame ends at most this many nanoseconds after its timestamp.
+# The frame of an attempt ends at most this many nanoseconds after the attempt's timestamp.
 MOST_LATER = 999
 # The largest possible timestamp in microseconds. The clock of a bus stops at this time.
 LAST_MOMENT = 9999999999999999

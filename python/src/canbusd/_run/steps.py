@@ -53,7 +53,7 @@ class Places(defaultdict[T, int]):
 
 
 class WireFrame:
-    """A data, remote or FD frame in the record's spelling, with the fields that arbitration and filters use."""
+    """A data, remote or FD frame as it is written in the record, with the fields that arbitration and filters use."""
 
     __slots__ = ("text", "word", "bits", "is_fd")
 
@@ -162,8 +162,8 @@ class Steps(Sequence[Step]):
         self.nominal_bits, self.fast_bits = array("H"), array("H")
         #: The number of attempts.
         self.tried = 0
-        # For each interface, the steps in which it tried or lost a frame. `_sorted` is the number of steps already in
-        # these lists.
+        # For each interface, the steps in which it tried to send or lost a frame. `_sorted` is the number of steps
+        # already in these lists.
         self._tries: "list[array[int]]" = []
         self._sorted = 0
 
@@ -216,7 +216,7 @@ class Steps(Sequence[Step]):
 
     @staticmethod
     def _go_on(column: "array[int]", length: int) -> None:
-        """Extends a column to this length by repeating its last number."""
+        """Extends a column to this length by repeating the last number."""
         column.extend((column[-1:] or array(column.typecode, [0])) * (length - len(column)))
 
     def _count(self, chunk: "Chunk", first: int) -> None:
@@ -317,8 +317,8 @@ class Steps(Sequence[Step]):
         return [(iface, WireFrame(self._next(iface, place))) for iface in self.met(place)]
 
     def _next(self, iface: int, place: int) -> str:
-        """Returns the first frame that an interface tries or loses in this step or later. If there is none, returns the
-        first frame that waits at the end of the run."""
+        """Returns the first frame that an interface tries to send or loses in this step or later. If there is none,
+        returns the first frame that waits at the end of the run."""
         if self.ifaces[place] == iface:
             return self.text(place)
         self._sort_tries()
@@ -329,7 +329,8 @@ class Steps(Sequence[Step]):
         return self.text(tries[later]) if self.kinds[tries[later]] < RESTART else self.lost[tries[later]][0][1]
 
     def _sort_tries(self) -> None:
-        """Adds the steps since the last call to the per-interface lists of steps that tried or lost a frame."""
+        """Adds the steps since the last call to the lists of the steps in which an interface tried to send or lost a
+        frame."""
         self._tries = self._tries or [array("I") for _ in self._all_ifaces]
         for place in range(self._sorted, len(self)):
             if self.kinds[place] < RESTART or place in self.lost:

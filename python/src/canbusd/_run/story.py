@@ -49,7 +49,7 @@ def events_of(run: Replay, names: Sequence[str]) -> list[Event]:
 
 
 def state_events(run: Replay, names: Sequence[str]) -> Iterator[Event]:
-    """Yields the changes of state, the frames lost because an interface went bus off or down, and the restarts."""
+    """Yields events: changes of state, frames lost because an interface went bus off or down, and restarts."""
     steps = run.steps
     # The step in which each interface last went bus off or down.
     went: dict[int, int] = {}

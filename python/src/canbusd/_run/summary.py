@@ -1,4 +1,4 @@
-"""Summarises a bus in a few lines: its events, the end of its log, and a table of its interfaces."""
+"""Summarises a bus in a few lines: its events, the last lines of its log, and a table of its interfaces."""
 
 import os
 import re
@@ -34,7 +34,7 @@ def interfaces(record: Record) -> list[Row]:
 
 
 def story(record: Record, most: int = MOST_EVENTS) -> list[str]:
-    """Returns a line that summarises the run, and the last events of the run."""
+    """Returns a line that summarises the run, and lines for the last events of the run."""
     replay, names = record.replay, record.names
     events = events_of(replay, names)
     lines = [heading_of(replay, names, events)[0]]

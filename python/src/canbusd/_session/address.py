@@ -48,11 +48,11 @@ def reason_of(fault: Exception) -> str:
 
 
 def connect(address: str, timeout: float) -> socket.socket:
-    """Connects to this address, and returns a socket that sends small writes at once."""
+    """Connects to this address, and returns a socket that sends small writes without delay."""
     path, host_port = parse_address(address)
     if host_port is not None:
         connected = socket.create_connection(host_port, timeout)
-        # Without this option, a command waits up to 40 milliseconds until the previous command is acknowledged.
+        # Without this option, a command would wait up to 40 milliseconds until TCP acknowledges the previous command.
         connected.setsockopt(socket.IPPROTO_TCP, socket.TCP_NODELAY, 1)
     else:
         assert path is not None

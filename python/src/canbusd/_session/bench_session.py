@@ -91,7 +91,7 @@ class Session(InjectsFaults, NamesWhatThereIs):
         self._closed = False
         # The indices of this session's frames among the frames sent at its interface.
         self._own: set[int] = set()
-        # The frames that were read from the socket but not returned yet.
+        # The frames that were read from the socket but not yet returned to the caller.
         self._received: deque[Frame] = deque()
         #: The name of the session's interface.
         self.channel = channel

@@ -33,8 +33,8 @@ CLOSE_TIMEOUT = 1.0
 # The shortest and the longest pause in seconds between two checks of a state that the server does not announce, such as
 # a full transmit queue.
 POLL, LONGEST_POLL = 0.0002, 0.01
-# The maximum time in seconds for which a waiting thread sleeps. Then it checks for input that another thread has read,
-# because that thread may have been interrupted.
+# The maximum time in seconds for which a waiting thread sleeps. Then the thread checks for input that another thread
+# has read, because the other thread may have been interrupted before it could wake this one.
 LONGEST_NAP = 1.0
 # How many seconds another thread gets to finish its read.
 A_TURN = 0.001
@@ -141,7 +141,7 @@ class Connection:
             return self._wait(self._next_frame, None if timeout is None else time.monotonic() + timeout)
         except ConnectionError:
             with self._lock:
-                # A thread that waits for the file descriptor is notified only once that the connection has ended.
+                # When the connection has ended, a thread that waits for the file descriptor is notified only once.
                 if self._readiness is not None and not self._is_closing:
                     self._readiness.show(False)
             raise
@@ -328,7 +328,7 @@ class Connection:
         return found
 
     def _next_news(self) -> threading.Lock:
-        """Returns a lock that can be taken once another thread has read something."""
+        """Returns a lock that is released after another thread has read something."""
         if self._news is None:
             news = threading.Lock()
             news.acquire()

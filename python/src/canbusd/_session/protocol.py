@@ -70,12 +70,12 @@ class Load(NamedTuple):
 
     #: The bus load in the last whole second, in thousandths: 1000 is a full bus.
     permille: int
-    #: How long the wire was busy since the server began, in microseconds.
+    #: How long the wire has been busy since the server started, in microseconds.
     micros: int
     #: The nominal bit rate, in bit/s.
     bitrate: int
-    #: The bit rate for the data of FD frames with bit rate switch. If the server has no such rate, it is the nominal
-    #: bit rate.
+    #: The bit rate for the data of FD frames with a bit rate switch. If the server has no such rate, this is the
+    #: nominal bit rate.
     data_bitrate: int
 
 
@@ -91,7 +91,8 @@ def numbers(words: Sequence[str], count: int) -> Optional[list[int]]:
 
 
 def numbers_after(first: str, answer: str, count: int) -> Optional[list[int]]:
-    """Returns the numbers that follow the first word of an answer. Returns None if the word or the count differs."""
+    """Returns the numbers that follow the first word of an answer. Returns None if the word or the count of numbers
+    differs."""
     words = answer.split()
     return numbers(words[1:], count) if words[:1] == [first] else None
 
@@ -159,7 +160,7 @@ def options(
 def filter_words(one: Mapping[str, Any]) -> tuple[int, int]:
     """Returns the identifier and the mask of a python-can filter, with the flags of linux/can.h.
 
-    If the filter has `extended`, only frames with that length of identifier pass. Data frames and remote frames are
+    If the filter has `extended`, only frames whose identifiers have that length pass. Data frames and remote frames are
     treated alike.
     """
     if not isinstance(one, Mapping):

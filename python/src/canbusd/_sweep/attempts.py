@@ -13,7 +13,7 @@ from canbusd.record import Record, read_record
 
 @dataclass(frozen=True)
 class Attempted:
-    """An attempt to send a frame on a bus of a test."""
+    """An attempt to send a frame, on a bus of a test."""
 
     bus: BusKey
     #: The number of the attempt on its bus.
@@ -38,7 +38,7 @@ class Attempted:
     receivers: tuple[str, ...] = ()
     #: The time at which the frame started. Without a bit rate, this is the timestamp.
     began: str = "0.000000"
-    #: Whether the sender is the only interface of the bus.
+    #: Whether the sender is the only interface on the bus.
     is_alone: bool = False
 
     @property
@@ -81,7 +81,7 @@ def receivers_in(record: Record, own: int) -> dict[int, set[int]]:
 
 
 def attempts_on(bus: BusKey, record: Record, own: int = 0) -> Iterator[Attempted]:
-    """Yields the attempts of a record. The first `own` sockets belong to the package and not to the test."""
+    """Yields the attempts of a record. The first `own` sockets were opened by this package and not by the test."""
     names, receivers = record.names, receivers_in(record, own)
     errors = [0] * len(names)
     of_identifier: Counter[tuple[int, str]] = Counter()

@@ -35,7 +35,7 @@ NUMBERED = re.compile(rf"(?P<first>[0-9]{{1,8}})(?:-(?P<last>[0-9]{{1,8}}))? (?:
 
 @dataclass(frozen=True)
 class Fault:
-    """A fault of a placement, on a bus of a test."""
+    """A fault of a placement. It affects one bus of a test."""
 
     #: The bus. None means the bus of the test's first server or bench. If this server has several buses, None means its
     #: first bus.

@@ -36,7 +36,7 @@ def burst(one: Attempted) -> str:
 
 
 def bus_off(one: Attempted) -> str:
-    """Returns the rule that destroys all attempts of the sender from this one on, until the sender is bus off."""
+    """Returns the rule that destroys all attempts of the sender, from this attempt on, until the sender is bus off."""
     count = -(-(OFF - one.errors) // STEP)
     skip = f"skip {one.nth_of_sender} " if one.nth_of_sender else ""
     return f"next {count} from {one.sender} {skip}global bit"
@@ -78,7 +78,7 @@ USUAL = ("destroyed", "twice", "burst")
 
 
 def known_kinds(names: Sequence[str]) -> Sequence[str]:
-    """Returns the names of kinds unchanged. Raises ValueError if one of them is unknown."""
+    """Returns the names of kinds unchanged. Raises ValueError if a name is unknown."""
     wrong = next((name for name in names if name not in ALL_KINDS), None)
     if wrong is not None:
         raise ValueError(f"no kind of fault {wrong!r}; there are {', '.join(ALL_KINDS)}")

@@ -14,7 +14,7 @@ from canbusd._whole_file import replaced
 
 #: The version of the file format. Files with another version are ignored.
 FORMAT = 1
-#: A test or a placement, as it is stored in the file.
+#: A test or a placement in the form in which it is stored in the file.
 Facts = Mapping[str, Any]
 
 

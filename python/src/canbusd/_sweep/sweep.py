@@ -1,4 +1,4 @@
-"""A sweep of tests: each test runs without a fault and then with each placement, and the results are reported."""
+"""A sweep of tests: each test runs first without a fault and then with each placement, and the results are reported."""
 
 import os
 import random
@@ -19,7 +19,7 @@ from canbusd._sweep.results import Facts, read_results, test_facts, write_page, 
 from canbusd._sweep.telling import Telling
 from canbusd._sweep.tests import Test
 
-#: The default jitter in microseconds for runs with other orders of simultaneous events.
+#: The default jitter in microseconds for runs in which simultaneous events are in another order.
 JITTER = 500
 #: The minimum time in seconds between two updates of the file with the results so far.
 BETWEEN_NOTES = 2.0

@@ -163,7 +163,7 @@ class Telling:
 
 
 def line_of_test(name: str, attempts: int, placements: int, run: int, failed: int) -> str:
-    """Returns the line for a test that passes without a fault."""
+    """Returns the line for a test that passed without a fault."""
     return f"{name}: {times(attempts, 'attempt')}, {times(placements, 'placement')}, {run} run, {failed} failed"
 
 

@@ -49,8 +49,8 @@ class Watched(CanbusdBus):
 
 
 class Merged:
-    """Merges the frames of several interfaces, so that each frame appears once. If the sender is one of these
-    interfaces, the frame appears there."""
+    """Merges the frames of several interfaces, so that each frame appears only once. If the sender is one of these
+    interfaces, the frame appears at the sender."""
 
     def __init__(self, buses: Sequence[tuple[str, Watched]]) -> None:
         self._buses = buses

@@ -137,7 +137,7 @@ def join_parts(names: "list[str]") -> int:
 
 
 def parted(words: "list[str]") -> "tuple[list[str], list[str]]":
-    """Splits the arguments into the buses and the words of the command."""
+    """Splits the arguments into the buses and the command with its arguments."""
     if "--" not in words:
         raise BadWords("canbusd sweep BUS -- COMMAND ..: -- is before the command")
     place = words.index("--")

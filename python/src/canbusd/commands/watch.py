@@ -76,7 +76,7 @@ class Watcher:
         span, now = time.monotonic() - began if began else 0.0, time.time()
         loads = [bus.load().permille for bus in self.buses]
         for number in range(len(self.buses)):
-            # Frames that arrived before the counts were read.
+            # Reads the frames that arrived before the counts were read.
             self.take(number, rows, faults[number])
         ifaces = [[*bus.error_counters(), *one[3:]] for bus, one in zip(self.buses, stats)]
         missed = sum(one.dropped for one in stats)
