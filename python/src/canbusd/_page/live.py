@@ -196,8 +196,8 @@ class Pages(ThreadingHTTPServer):
         super().process_request(request, client_address)
 
     def asks(self, request: socket.socket) -> None:
-        """Records that a connection is no longer without a request, because its request was accepted or because it is
-        being closed."""
+        """Records that a connection does not need to send a request any more, because its request was accepted or
+        because it is being closed."""
         with self._lock:
             self._waiting.pop(request, None)
 

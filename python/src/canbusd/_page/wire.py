@@ -57,7 +57,7 @@ def begins_of(run: Replay, timeline: "Timeline", slots: Sequence[Slot], over: in
 
 
 def since_of(run: Replay, places: Sequence[int]) -> "array[int]":
-    """Returns, for each attempt, how many rows before it its frame first took part in arbitration."""
+    """Returns, for each attempt, how many rows ago its frame first took part in arbitration."""
     steps, since = run.steps, array("I")
     firsts: dict[int, int] = {}
     for step, (place, kind, iface, off) in enumerate(zip(places, steps.kinds, steps.ifaces, steps.off)):

@@ -13,8 +13,8 @@ CLOSING = 0.2
 
 
 def remove_left(folder: Path) -> None:
-    """Removes the lock file that a killed server left in this folder. As for a server, the file must be empty, and no
-    other server may hold the lock."""
+    """Removes the lock file that a killed server left in this folder. As in the server, the file is removed only if it
+    is empty and if no other server holds the lock."""
     path = folder / NAME
     # If the file can't be removed, it stays and does no harm.
     with contextlib.suppress(OSError):

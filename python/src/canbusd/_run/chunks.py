@@ -119,8 +119,8 @@ class Reader:
         self._waiting = Waiting(bus.ifaces)
 
     def read(self, text: str, sockets: Sequence[int]) -> Chunk:
-        """Returns the contents of complete lines, without the final LF. `sockets` lists the interfaces of the sockets
-        that were opened before these lines."""
+        """Reads complete lines, given without the final LF, and returns their contents. `sockets` lists the interfaces
+        of the sockets that were opened before these lines."""
         lines = Lines(text, self._may_restart)
         others = [*zip(lines.of(OTHER), lines.steps_before(OTHER), lines.entries_of(OTHER))] if lines.has_others else []
         self._sockets[:] = [*sockets, *opened_in(line for line, _, _ in others)]

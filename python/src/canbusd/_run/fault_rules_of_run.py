@@ -165,7 +165,7 @@ def deciders(record: Record, faults: FaultsFile) -> list[str]:
 
 
 def rules_of(record: Record, text: bytes, faults: FaultsFile) -> list[str]:
-    """Returns the rules in `text` that gave attempts their verdicts, in the same form as `deciders`."""
+    """Returns the rule of each attempt, as `deciders` does. `text` is the content of the faults file."""
     if not text:
         return []
     file = None if record.text else faults.record

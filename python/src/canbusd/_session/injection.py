@@ -73,7 +73,7 @@ class InjectsFaults:
         return f": {wrong} is none of {', '.join(names)}" if wrong else ": one of its interfaces is on another bus"
 
     def rules_left(self) -> int:
-        """Returns how many rules of the interface's bus are not used up. Rules without a count are included."""
+        """Returns how many rules of the interface's bus have not been used up. Rules without a count are included."""
         return self._parsed(self._answer("faults"), rules_left_of)
 
     def end_rules(self) -> None:
