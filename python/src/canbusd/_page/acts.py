@@ -1,7 +1,7 @@
 """The actions of the live page: it sends frames, adds and ends fault rules, and takes interfaces down and up.
 
-Each action returns the line of Python that does the same. A cyclic frame is sent only while the page that requested it
-is open.
+Each action returns a line of Python that does the same. A cyclic frame is sent only while the page that requested it is
+open.
 """
 
 import contextlib
@@ -25,7 +25,7 @@ from canbusd.signals import Database
 
 #: The maximum number of cyclic frames at a time, and the shortest and the longest period in seconds.
 MOST_CYCLES, LEAST_PERIOD, MOST_PERIOD = 64, 0.001, 3600.0
-# Matches the value of a signal that is also a valid number in Python.
+# Matches a signal value that is also a valid number literal in Python.
 NUMBER = re.compile(r"-?(?:0|[1-9][0-9]*)(?:\.[0-9]+)?")
 
 Json = dict[str, Any]
@@ -36,7 +36,7 @@ class Cycle:
 
     def __init__(self, bus: CanbusdBus, frame: Frame, period: float, text: str) -> None:
         self.bus, self.period, self.text = bus, period, text
-        #: The reason why the last send was refused, or the empty text if it succeeded.
+        #: The reason why the last send was refused, or the empty string if it succeeded.
         self.fault = ""
         self._frame, self._has_ended = frame, threading.Event()
         self._thread = threading.Thread(target=self._run, name="canbusd cycle", daemon=True)
@@ -55,22 +55,22 @@ class Cycle:
                 self.fault = ""
             except CanError as fault:
                 self.fault = words_of(fault)
-            # After a delay the missed frames are skipped.
+            # After a delay, the frames that were missed are skipped.
             due = max(due + self.period, time.monotonic())
 
 
 class Acts:
-    """The actions that pages may request, for these interfaces of the server at this address."""
+    """The actions that pages may request for these interfaces of a server."""
 
     def __init__(self, names: Sequence[str], address: Optional[str], database: Optional[Database] = None) -> None:
         self._names, self._address, self._database = names, address, database
         self._lock = threading.Lock()
-        # A session for each interface that some action has used.
+        # The sessions that were opened so far, by the name of their interface.
         self._buses: dict[str, CanbusdBus] = {}
-        # The cyclic frames of each open page, by their numbers.
+        # For each open page, its cyclic frames by their numbers.
         self._cycles: dict[str, dict[int, Cycle]] = {}
         self._number = 0
-        #: The actions, by the names that pages use to request them.
+        #: Maps the name that a page uses for an action to the action.
         self.by_name: dict[str, Callable[[Json], str]] = {
             "send": self._send,
             "cycle": self._cycle,
@@ -83,8 +83,7 @@ class Acts:
         }
 
     def do(self, name: str, asked: Json) -> Json:
-        """Carries out this action. Returns the line of Python that does the same, or the reason why the action was
-        refused."""
+        """Performs this action. Returns a line of Python that does the same, or the reason why the action was refused."""
         try:
             return {"python": self.by_name[name](asked)}
         except (CanError, ValueError) as fault:
@@ -92,8 +91,8 @@ class Acts:
 
     @contextlib.contextmanager
     def page(self) -> Iterator[Callable[[], Json]]:
-        """Registers an open page, and yields a function that returns the page's news. On exit the cyclic frames of the
-        page are stopped."""
+        """Registers an open page, and yields a function that returns the page's identifier and cyclic frames. On exit,
+        the page's cyclic frames are stopped."""
         page = secrets.token_urlsafe(8)
         with self._lock:
             self._cycles[page] = {}
@@ -106,15 +105,15 @@ class Acts:
                 cycle.stop()
 
     def _shown(self, page: str) -> list[list[Any]]:
-        """Returns the number, interface, frame, period in seconds and reason of refusal of each cyclic frame of a
-        page."""
+        """Returns the number, the interface, the frame, the period in seconds and the reason for a refusal of each
+        cyclic frame of a page."""
         with self._lock:
             cycles = list(self._cycles[page].items())
         return [[number, one.bus.channel, one.text, one.period, one.fault] for number, one in cycles]
 
     def messages(self) -> list[list[Any]]:
-        """Returns the messages of the files: the name, the cycle time in seconds, and the signals. Each signal has a
-        name, a unit, a start value and the names of its values."""
+        """Returns the messages in the database files: the name, the cycle time in seconds, and the signals. Each signal
+        has a name, a unit, a start value and the names of its values."""
         found = self._database.messages if self._database is not None else []
         return [
             [one.name, one.cycle_time, [[of.name, of.unit, of.start, [*of.choices.values()]] for of in one.signals]]
@@ -151,7 +150,7 @@ class Acts:
 
     def _rule(self, asked: Json) -> str:
         rule, bus = parse_rule(text_of(asked, "rule").strip()), self._bus(asked)
-        # The line feed marks this argument as the text of a script and not as a path.
+        # The line feed marks this argument as a script and not as a path.
         bus.inject(f"{rule}\n")
         return f"server.inject({quoted(str(rule))}, {quoted(bus.channel)})"
 
@@ -176,7 +175,7 @@ class Acts:
         return on_bus("bus.restart()", bus)
 
     def _bus(self, asked: Json) -> CanbusdBus:
-        """Returns the session on the requested interface."""
+        """Returns a session on the requested interface."""
         name = text_of(asked, "node")
         if name not in self._names:
             raise ValueError(f"node is one of {', '.join(self._names)}, not {name!r}")
@@ -186,8 +185,8 @@ class Acts:
             return self._buses[name]
 
     def _frame(self, asked: Json) -> tuple[Frame, str]:
-        """Returns the requested frame, which is given as text or by the values of signals, and the Python expression
-        for it."""
+        """Returns the requested frame, which is given as a string or by signal values, and the Python expression for
+        it."""
         if "message" not in asked:
             frame = Frame.parse(text_of(asked, "frame"))
             # This call raises an error if no interface can send the frame.
@@ -203,7 +202,7 @@ class Acts:
 
 
 def text_of(asked: Json, name: str) -> str:
-    """Returns the text with this name in a request."""
+    """Returns the string with this name in a request."""
     found = asked.get(name)
     if not isinstance(found, str):
         raise ValueError(f"{name} is a text, not {found!r}")
@@ -219,12 +218,12 @@ def period_of(asked: Json) -> float:
 
 
 def words_of(fault: Exception) -> str:
-    """Returns the message of an exception, without the number that python-can adds."""
+    """Returns the message of an exception without the error code that python-can appends."""
     return str(fault).partition(" [Error Code ")[0]
 
 
 def quoted(text: str) -> str:
-    """Returns a text as a Python string literal."""
+    """Returns a Python literal for this string."""
     return json.dumps(text, ensure_ascii=False)
 
 
@@ -234,7 +233,7 @@ def value_words(text: str) -> str:
 
 
 def on_bus(line: str, bus: CanbusdBus, is_fd: bool = False) -> str:
-    """Returns a line of Python with a comment that defines `bus`."""
+    """Returns a line of Python, followed by a comment that defines `bus`."""
     return f"{line}  # bus = server.bus({quoted(bus.channel)}{', fd=True' if is_fd else ''})"
 
 

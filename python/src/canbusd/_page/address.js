@@ -1,4 +1,4 @@
-// The address of the page follows the reader's choices, so a link to the page shows them.
+// The address of the page stores the user's choices, so that a link to the page restores them.
 
 const FILTERS = ["of-node", "of-frame", "of-outcome", "of-socket", "of-fate", "of-signal"];
 const hashWords = (hash = location.hash) => new URLSearchParams(hash.slice(1));

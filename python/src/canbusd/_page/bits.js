@@ -1,5 +1,5 @@
-// The bits of a frame on the wire, as `canbusd bits` prints them. They are computed here because the page can't run a
-// program.
+// The bits of a frame on the wire, as `canbusd bits` prints them. They are computed here because a page can't run
+// programs.
 
 const lowBits = (count, number) => Array.from({ length: count }, (_, k) => Math.floor(number / 2 ** (count - 1 - k)) % 2);
 const FD_LENGTHS = [0, 1, 2, 3, 4, 5, 6, 7, 8, 12, 16, 20, 24, 32, 48, 64];
@@ -39,7 +39,7 @@ class Sender {
       }
     }
   }
-  // Adds bits with a fixed stuff bit before each group of four bits.
+  // Adds bits, with a fixed stuff bit before each group of four bits.
   sendFixed(fields) {
     fields.flatMap(([field, ...bits]) => bits.map(bit => [field, bit])).forEach(([field, bit], place) => {
       if (place % 4 === 0) this.put(field, 1 - this.bits.at(-1).bit, true);
@@ -81,7 +81,8 @@ function wireBits(text) {
   return sender.bits;
 }
 
-// Returns the bit at which a sender with other bits stops sending, or -1. After arbitration no sender stops.
+// Returns the index of the bit at which a sender with other bits stops sending, or -1. No sender stops after
+// arbitration.
 const COMPETES = new Set(["SOF", "identifier", "SRR", "IDE", "extension", "RTR", "RRS"]);
 function silentAt(bits, others) {
   const place = bits.findIndex((one, k) => one.bit !== others[k]?.bit);
@@ -90,7 +91,8 @@ function silentAt(bits, others) {
 
 // The table of the bits of the chosen attempt has a row for each field.
 
-// Returns the bit in which a fault is seen, or the field if the fault is not seen in a particular bit (GUIDE, Faults).
+// Returns the index of the bit at which a fault is seen, or the field if the fault has no particular bit (GUIDE,
+// Faults).
 function faultPlace(bits, kind, fault) {
   const last = field => bits.findLastIndex(one => one.field === field);
   if (kind === "noack") return { place: last("ACK slot"), words: "not acknowledged" };
@@ -98,7 +100,7 @@ function faultPlace(bits, kind, fault) {
   if (/^global bit|^local stuff/.test(fault)) return { field: last("data") < 0 ? "DLC" : "data", words: `${fault}: seen by the end of this field` };
   return /^global form|^local (crc|form)/.test(fault) ? { field: "ACK delimiter", words: `${fault}: seen by here` } : null;
 }
-// Maps bits to notes about the senders that stop sending there.
+// Maps the indices of bits to notes about the senders that stop sending there.
 function silences(step, bits) {
   const found = new Map();
   for (const { iface, text } of takingPart(step)) {
@@ -131,7 +133,7 @@ function bitTable(step) {
   return [element("h3", title), table];
 }
 
-// Keyboard input in the table. The focused row keeps the focus when another attempt is chosen.
+// Keyboard input in the table. The focused row stays focused when another attempt is chosen.
 const bitKeys = { row: 0, before: null };
 function markBits(rows, place) {
   bitKeys.row = Math.min(Math.max(0, place), rows.length - 1);
@@ -153,7 +155,7 @@ function listenToBits(table) {
     if (to === undefined) leaveBits(); else markBits(rows, to).focus();
   });
 }
-// Returns the focus to the element that had it before.
+// Gives the focus back to the element that had it before.
 function leaveBits() {
   (bitKeys.before?.isConnected ? bitKeys.before : at("area")).focus();
 }

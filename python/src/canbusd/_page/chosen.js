@@ -11,13 +11,13 @@ function signalTable(step) {
     : element("p", "The frame is shorter than its message.")];
 }
 
-// Returns the frame with which a node takes part: the next frame that it tries, or the first frame in its queue at the
-// end.
+// Returns the frame with which a node takes part in arbitration: the next frame that it tries, or the first frame in
+// its queue at the end of the run.
 function headOf(iface, step) {
   while (step < axis.count && !(isAttempt(step) && steps.iface[step] === iface)) step++;
   return step < axis.count ? textOf(step) : run.heads[iface];
 }
-// Returns the bits that arbitration compares (Bosch CAN 2.0). Blanks separate the fields at the same places in all
+// Returns the bits that arbitration compares (Bosch CAN 2.0). Blanks separate the fields at the same positions in all
 // frames.
 function bitsOf(text) {
   const [identifier, payload] = text.split("#"), rtr = payload.startsWith("R") ? "1" : "0";
@@ -25,7 +25,7 @@ function bitsOf(text) {
   if (identifier.length === 3) return `${bits.padStart(11, "0")} ${rtr}0`;
   return bits.padStart(29, "0").replace(/^.{11}/, "$& 11 ") + ` ${rtr}`;
 }
-// Returns the nodes that take part in an attempt, with their frames.
+// Returns the nodes that take part in the arbitration of an attempt, with their frames.
 const takingPart = step => names.map((_, iface) => iface).filter(iface => queues[iface].all[step])
   .map(iface => ({ iface, text: headOf(iface, step) }));
 function arbitration(step) {
@@ -63,7 +63,7 @@ function countersAround(step) {
   const heads = ["node", "part in it", "state after it", "transmit count", "receive count", "queue before it"];
   return element("table", rowsOf(heads, rows));
 }
-// Returns the fields of a frame in the usual terms of CAN.
+// Returns the fields of a frame in the usual CAN terms.
 function fieldsOf(text) {
   const [identifier, payload] = [text.slice(0, text.indexOf("#")), text.slice(text.indexOf("#") + 1)];
   const isRemote = payload.startsWith("R"), isFd = payload.startsWith("#"), data = isRemote ? "" : payload.slice(isFd ? 2 : 0);
@@ -81,7 +81,7 @@ function fieldList(step) {
   happened("fields", pairs, step);
   return element("dl", pairs.flatMap(([name, value]) => [element("dt", name), element("dd", value)]));
 }
-// The other parts of a step: its events, lost frames and items.
+// The other details of a step: its events, lost frames and items.
 function eventsAt(step) {
   const events = run.events.filter(event => event[0] === step), lost = run.lost[step] || [];
   const words = ([, kind, , text]) => element("p", [element("b", `${kind}: `, { className: isWorst(kind) ? "bad" : "" }), text]);

@@ -1,5 +1,5 @@
 "use strict";
-// Code for both pages: elements, words, colours, columns of numbers and places on the time line.
+// Code for both pages: elements, words, colours, columns of numbers and positions on the time line.
 
 const KINDS = ["done", "lastbit", "destroyed", "noack", "restart", "down", "idle"];
 const KIND_WORDS = ["done", "last bit", "destroyed", "no acknowledgement", "restart", "down", "idle"];
@@ -7,7 +7,7 @@ const KIND_WORDS = ["done", "last bit", "destroyed", "no acknowledgement", "rest
 const RESTART = 4, DOWN = 5, IDLE = 6;
 const STATES = ["active", "warning", "passive", "off", "down"];
 const IS_OFF = 3, IS_DOWN = 4;
-// The names of states in CAN documents. They contain a space that does not break at the end of a line.
+// The names of states as in CAN documents, with a non-breaking space.
 const stateWords = state => ({ off: "bus\u00a0off", down: "down" })[state] || `error\u00a0${state}`;
 const LIMITS = [[96, "warning"], [128, "passive"], [256, "bus off"]];
 const WARNING = 96, PASSIVE = 128, OFF = 256;
@@ -15,7 +15,7 @@ const WARNING = 96, PASSIVE = 128, OFF = 256;
 const at = id => document.getElementById(id);
 const grouped = number => number.toLocaleString("en");
 const severity = count => (count >= WARNING) + (count >= PASSIVE) + (count >= OFF);
-// Returns the local time of day.
+// Formats seconds since 1970 as the local time of day.
 const clock = seconds => new Date(seconds * 1000).toTimeString().slice(0, 8);
 const times = (number, one, many = one + "s") => `${grouped(number)} ${number === 1 ? one : many}`;
 
@@ -30,8 +30,8 @@ function cell(tag, content) {
   return element(tag, typeof content === "number" ? grouped(content) : content, isNumber ? { className: "number" } : {});
 }
 const tableRow = (tag, cells) => element("tr", cells.map(one => cell(tag, one)));
-// Returns the rows of a table. The heading of a column with numbers is aligned right. On a narrow page each cell shows
-// its heading.
+// Returns the rows of a table. The heading of a column with numbers is aligned right. On a narrow page every cell shows
+// the heading of its column.
 function rowsOf(heads, rows) {
   const made = rows.map(cells => tableRow("td", cells)), head = tableRow("th", heads);
   for (const row of made) {
@@ -42,17 +42,18 @@ function rowsOf(heads, rows) {
   }
   return [head, ...made];
 }
-// A cell with a count that is marked as bad unless it is 0.
+// Returns a cell with a count. The cell is marked as bad unless the count is 0.
 const loss = number => element("td", grouped(number), { className: number ? "number bad" : "number" });
-// The symbol of a kind of attempt, or of another entry of the legend.
+// Returns the symbol for a kind of attempt, or for another entry of the legend.
 const mark = name => element("i", [], { className: "mark " + name });
 
-// Functions that a script registers, and that run when another script has finished its work.
+// Callbacks that one script registers for an event, and that run when another script announces this event.
 const added = {};
 function on(what, each) { (added[what] ||= []).push(each); }
 function happened(what, ...given) { for (const each of added[what] || []) each(...given); }
 
-// The periods between timestamps in seconds: the number of timestamps, and the minimum, mean and maximum period.
+// Statistics of the periods between timestamps, in seconds: the number of timestamps, and the minimum, mean and maximum
+// period.
 class Periods {
   constructor() { Object.assign(this, { number: 0, least: Infinity, most: 0, first: 0, last: 0 }); }
   add(moment) {
@@ -65,7 +66,7 @@ class Periods {
   get mean() { return (this.last - this.first) / (this.number - 1); }
   // The largest deviation of a period from the mean.
   get jitter() { return Math.max(this.mean - this.least, this.most - this.mean); }
-  // Returns the periods in milliseconds, with the mean first. The texts are empty if there is only one timestamp.
+  // Returns the periods in milliseconds, with the mean first. The strings are empty if there is only one timestamp.
   get words() {
     if (this.number < 2) return ["", "", "", ""];
     return [this.mean, this.least, this.most, this.jitter].map(seconds => grouped3(seconds * 1000));
@@ -74,7 +75,7 @@ class Periods {
 const grouped3 = number => number.toLocaleString("en", { minimumFractionDigits: 3, maximumFractionDigits: 3 });
 const PERIOD_COLUMNS = ["period, ms", "least", "largest", "jitter"].map(head => [head, "minmax(0, 8.5ch)", "n h"]);
 
-// Colours and hatching. The hatching lines repeat every 6 pixels, so that each kind differs by more than its colour.
+// Colours and hatching. The hatching lines repeat every 6 pixels, so that kinds differ by more than their colours.
 
 const HATCH = {
   lastbit: by => [by + 3, 0, by + 3, 6],
@@ -83,7 +84,7 @@ const HATCH = {
   off: by => [by, 0, by + 6, 6],
   down: by => [0, by + 3, 6, by + 3],
 };
-// Whether the hatching has the background of the page, as for a node that is off the bus.
+// Whether the background of the hatching is that of the page, as for a node that is off the bus.
 const isHollow = name => name === "off" || name === "down";
 const COLOURS = ["text", "soft", "line", "on", "stripe", "tec", "rec", "queue", "accepted", "hit", "off", "warning",
   "passive", "page", "panel", ...KINDS];
@@ -111,7 +112,7 @@ function hatched(pen, name) {
 const fillsOf = pen => Object.fromEntries([...KINDS, "off"].map(name =>
   [name, HATCH[name] ? hatched(pen, name) : theme[name]]));
 
-// Steps on the time line. Step k begins at start[k], and the starts never decrease.
+// The steps on the time line. Step k begins at position start[k], and these positions never decrease.
 
 class Axis {
   // `least` is the minimum length of the visible part.
@@ -121,7 +122,7 @@ class Axis {
     this.length = Math.max(start[this.count], least);
     this.least = least;
   }
-  // Returns the first step that begins at or after this place.
+  // Returns the first step that begins at or after this position.
   from(place) {
     let low = 0, high = this.count;
     while (low < high) {
@@ -130,7 +131,7 @@ class Axis {
     }
     return low;
   }
-  // Returns the last step that begins at or before this place.
+  // Returns the last step that begins at or before this position.
   stepAt(place) {
     let low = 0, high = this.count - 1;
     while (low < high) {
@@ -141,7 +142,7 @@ class Axis {
   }
 }
 
-// A column of numbers, with the minimum and maximum of each block.
+// A column of numbers, with the minimum and maximum of each block of numbers.
 
 const BLOCK = 64;
 class Numbers {
@@ -163,7 +164,7 @@ class Numbers {
     }
     for (let step = blocks * BLOCK; step < all.length; step++) this.most = Math.max(this.most, all[step]);
   }
-  // Finds the minimum and maximum of the numbers from `first` up to, but not including, `last`.
+  // Finds the minimum and maximum of the numbers with indices from `first` up to, but not including, `last`.
   range(first, last, found) {
     let low = Infinity, high = 0;
     const { all } = this;
@@ -185,8 +186,8 @@ class Numbers {
   }
 }
 
-// Counts how often each of `codes` codes occurs in a range of a column. It uses stored sums for whole blocks, and
-// counts the rest one by one.
+// Counts how often each of the codes below `codes` occurs in a range of a column. It uses precomputed sums for whole
+// blocks, and counts the remaining numbers one by one.
 class Tallies {
   constructor(column, codes) {
     Object.assign(this, { column, codes });
@@ -211,7 +212,7 @@ class Tallies {
   }
 }
 
-// Handles the keys, and the buttons that do the same as a key.
+// Handles key presses, and clicks on buttons that do the same as a key.
 function listenToKeys(keys) {
   for (const button of document.querySelectorAll("[data-key]")) button.onclick = () => keys[button.dataset.key]();
   document.addEventListener("keydown", event => {

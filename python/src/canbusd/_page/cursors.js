@@ -1,4 +1,4 @@
-// A second cursor, and its distance to the chosen step.
+// A second cursor, and its distance from the chosen step.
 
 const second = { step: null };
 function markStep(step) {

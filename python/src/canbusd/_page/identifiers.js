@@ -1,4 +1,4 @@
-// Statistics of each identifier over the attempts that pass the filters: the number of successful attempts, their
+// Statistics for each identifier over the attempts that pass the filters: the number of successful attempts, their
 // periods, and the last data.
 
 function identifierList() {
@@ -11,12 +11,12 @@ function identifierList() {
   return made;
 }
 const identifierOf = text => text.slice(0, text.indexOf("#"));
-// The number of different identifiers, set when the run has been read.
+// How many different identifiers the run has. Set after the run has been read.
 let allIdentifiers = 0;
 on("taken", () => {
   const isTried = new Uint8Array(run.texts.length), found = new Set();
   for (let step = 0; step < axis.count; step++) if (isAttempt(step)) isTried[steps.frame[step]] = 1;
-  // Numbers are faster than texts here. Extended identifiers are mapped to a separate range of numbers.
+  // Numbers are faster than strings here. Extended identifiers are mapped to a separate range of numbers.
   const numberOf = text => parseInt(text, 16) + (text[3] === "#" ? 0 : 2 ** 29);
   isTried.forEach((is, place) => { if (is) found.add(numberOf(run.texts[place])); });
   allIdentifiers = found.size;

@@ -1,14 +1,15 @@
-// The time line: a ruler and a lane for each node. A step has the same horizontal place in all of them. The time line
-// is redrawn when the visible part changes. The cursor at the chosen step is an element on top, which is only moved.
+// The time line: a ruler and a lane for each node. A step has the same horizontal position in all of them. The time
+// line is redrawn when the visible part changes. The cursor at the chosen step is an element on top of the lanes, so it
+// can be moved without redrawing.
 
 const STRIP = 20, BAND = 13, CURVES = 48, SPACE = 9, TOP = 264;
 const view = { from: 0, to: 1, step: 0 };
 let axis = new Axis([0], 1), lanes = [];
-// The settings of the time line. `isInstant` says that steps have no length on the current axis. If `lengthOf` is
-// given, steps have a length and end before the next one begins. Then `ends` is an axis with the ends of the steps.
+// The settings of the time line. `isInstant` means that steps have no length on the current axis. If `lengthOf` is
+// given, steps have a length and end before the next step begins. Then `ends` is an axis with the ends of the steps.
 const time = { isInstant: false, lengthOf: null, ends: null, axisWords: [], ticks: () => [], words: () => "", choose: () => {}, moved: () => {} };
 
-// The places of lanes and steps.
+// The positions of lanes and steps.
 
 const isNarrow = () => window.innerWidth < 640;
 function plotted() {
@@ -17,16 +18,16 @@ function plotted() {
 }
 const placeOf = (plot, place) => (place - view.from) / (view.to - view.from) * plot.width;
 
-// `widthOf` returns the width of a step that has a length, and `endOf` returns the end of any step.
+// `widthOf` returns the width in pixels of a step that has a length, and `endOf` returns where any step ends.
 const widthOf = (plot, step) => time.lengthOf(step) / (view.to - view.from) * plot.width;
 const endOf = (plot, step) => time.lengthOf ? placeOf(plot, axis.start[step]) + widthOf(plot, step)
   : placeOf(plot, axis.start[step + 1] ?? axis.length);
 
-// Returns the steps of each pixel: pixel x shows the steps from edges[x] up to, but not including, edges[x + 1].
+// Returns which steps each pixel shows: pixel x shows the steps from edges[x] up to, but not including, edges[x + 1].
 function edgesOf(width, from, to, places = axis) {
   const edges = new Int32Array(width + 1);
   for (let x = 0; x <= width; x++) edges[x] = places.from(from + (to - from) * x / width);
-  // A step that ends at the right end of the axis belongs to the last pixel.
+  // A step at the right end of the axis belongs to the last pixel.
   if (to >= axis.length) edges[width] = axis.count;
   return edges;
 }
@@ -62,8 +63,8 @@ function block(pen, fill, x, y, width, height) {
   pen.fillStyle = fill;
   pen.fillRect(x, y, width, height);
 }
-// Calls `each` for each pixel with x and with the minimum, the maximum and the last value of its steps. A pixel without
-// a step repeats the last value before it.
+// Calls `each` for each pixel with x and with the minimum, the maximum and the last value of the steps at this pixel. A
+// pixel without a step repeats the last value before it.
 function pixels(plot, numbers, each) {
   const { edges } = plot, found = { low: 0, high: 0 };
   let last = edges[0] ? numbers.all[edges[0] - 1] : 0;
@@ -102,8 +103,8 @@ function area(plot, numbers, top, height, most, tint) {
     if (high) plot.pen.fillRect(x, top + height - high / most * height, 1, high / most * height);
   });
 }
-// Draws the waiting frames on an axis by time. The number is `queue` from the start of a step to its end, and `left`
-// after that.
+// Draws the number of waiting frames on an axis by time. The number is `queue` from the start of a step to its end, and
+// `left` after that.
 function waitingArea(plot, queue, left, top, height, most) {
   const { edges } = plot, each = (view.to - view.from) / plot.width, found = { low: 0, high: 0 };
   plot.pen.fillStyle = theme.queue;
@@ -121,8 +122,8 @@ function waitingArea(plot, queue, left, top, height, most) {
     if (high) plot.pen.fillRect(x, top + height - high / most * height, 1, high / most * height);
   }
 }
-// Draws the states of a node. Error active is a line, and each other state is a bar with its name. Error warning is an
-// outline, or a low bar if it is short. A pixel shows the worst of its states.
+// Draws the states of a node. Error active is a line, and each other state is a bar with the name of the state. Error
+// warning is an outline, or a low bar if it is short. Each pixel shows the worst state that occurs there.
 function band(plot, tec, rec, top, fills, down) {
   const { pen } = plot, worst = new Uint8Array(plot.width);
   pixels(plot, tec, (x, _, high) => { worst[x] = severity(high); });
@@ -150,7 +151,7 @@ function stateBar(pen, state, x, top, wide, fills) {
   }
   pen.font = "12px system-ui, 'DejaVu Sans', sans-serif";
 }
-// Writes the first text that fits, on a background in the colour of the element below.
+// Writes the first of the texts that fits, on a background in the colour of the element below.
 function plate(pen, texts, x, wide, y, back, tint) {
   const text = texts.find(one => pen.measureText(one).width < wide - 6);
   if (!text) return;
@@ -159,8 +160,8 @@ function plate(pen, texts, x, wide, y, back, tint) {
   write(pen, text, x + wide / 2, y + 0.5, tint, "center");
 }
 
-// The lane of a node: its attempts, its state, its counters and its queue. The counters and the queue are folded if
-// nothing happens there.
+// The lane of a node: its attempts, its state, its error counters and its queue. The counters and the queue are folded
+// if the error counts stay 0, the queue never holds two frames, and the node is never down.
 
 class NodeLane {
   constructor(number, name, columns, strip) {
@@ -171,7 +172,7 @@ class NodeLane {
   get height() { return STRIP + BAND + (this.isFolded ? 0 : CURVES) + SPACE; }
   draw(plot, top, fills) {
     this.strip(plot, this.number, top, fills);
-    // Counts and states apply to the time after a step.
+    // Counts and states apply to the time after the end of a step.
     const after = plot.ends ? { ...plot, edges: plot.ends } : plot;
     band(after, this.tec, this.rec, top + STRIP + 2, fills, this.down);
     if (!this.isFolded) this.curves(plot, after, top + STRIP + BAND + 4, CURVES - 2);
@@ -193,14 +194,14 @@ class NodeLane {
       else write(plot.pen, `${limit} ${text}`, plot.width + 6, y(limit) + aside[limit], theme.soft);
     }
   }
-  // Returns the words at the left of the lane: the values at a step.
+  // Returns the words to the left of the lane: the values at a step.
   values(step) {
     const of = numbers => numbers.all.length ? grouped(numbers.all[step]) : "0";
     return [["tec", `transmit ${of(this.tec)}`], ["rec", `receive ${of(this.rec)}`], ["queue", `queue ${of(this.queue)}`]];
   }
 }
 
-// A lane with one column of numbers as an area or a curve, and with marks at some steps.
+// A lane that shows one column of numbers as an area or a curve, with marks at some steps.
 class CurveLane {
   constructor(name, numbers, words, more = {}) {
     Object.assign(this, { name, numbers, words, height: 58, marks: null, hasArea: true, most: Math.max(1, numbers.most) }, more);
@@ -225,7 +226,7 @@ class CurveLane {
   values(step) { return [["tec", this.words(step)]]; }
 }
 
-// Drawing the whole time line.
+// Draws the whole time line.
 
 let layer = "";
 function drawTime() {
@@ -260,7 +261,7 @@ function drawRuler(plot) {
     free = left + wide + 14;
   }
 }
-// Returns at most `most` round numbers between `from` and `to`, and the distance between them.
+// Returns round numbers between `from` and `to`, about `most` of them, and the distance between them.
 function rounded(from, to, most, least) {
   const rough = Math.max((to - from) / Math.max(most, 1), least), power = 10 ** Math.floor(Math.log10(rough));
   const each = [1, 2, 5, 10].map(by => by * power).find(by => by >= rough * 0.9999) || 10 * power;
@@ -269,10 +270,9 @@ function rounded(from, to, most, least) {
   return { each, found };
 }
 
-// A name that is too long for its place is shortened before its last characters, because names mostly differ at the
-// end.
+// A name that does not fit is shortened before its last five characters, because names mostly differ at the end.
 const nameParts = name => name.length < 9 ? name : [element("span", name.slice(0, -5)), element("span", name.slice(-5))];
-// Builds the column at the left with the names of the lanes and the values at the chosen step.
+// Builds the column to the left of the lanes, with the names of the lanes and the values at the chosen step.
 function buildGutter() {
   const axisWords = element("div", time.axisWords.map(text => element("div", text)), { className: "axis" });
   at("gutter").replaceChildren(axisWords, ...lanes.map(lane => {
@@ -310,12 +310,12 @@ function sayValues() {
     said.forEach(([, text], k) => { lane.said.children[k].lastChild.data = text; });
   }
 }
-// Places the cursor for the chosen step over the ruler and the lanes.
+// Positions the cursor for the chosen step over the ruler and the lanes.
 function placeCursor(step = view.step, cursor = at("cursor")) {
   const plot = plotted(), from = placeOf(plot, axis.start[step]);
   moveCursor(cursor, plot, from, time.isInstant ? from : endOf(plot, step));
 }
-// Moves a cursor. It is at least 3 pixels wide, and never extends beyond the lanes.
+// Moves a cursor. It is at least 3 pixels wide, and stays within the lanes.
 function moveCursor(cursor, plot, from, to) {
   const left = Math.min(Math.max(from, 0), plot.width - 3);
   cursor.hidden = !axis.count || Math.max(to, from + 3) < 0 || from > plot.width;

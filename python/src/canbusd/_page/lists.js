@@ -1,12 +1,13 @@
-// Lists of any length, tabs, and buttons that choose kinds.
+// Lists of any length, tabs, and buttons that select kinds.
 
-// The maximum height in pixels that browsers can scroll through. In longer lists each pixel scrolls over several rows.
+// The maximum height in pixels that browsers can scroll through. In longer lists, each pixel of scrolling stands for
+// several rows.
 const MOST_ROOM = 8e6;
 
 // A list that creates only the rows in view. A column has a heading, a width, and letters for its options. A column
-// with "n" has numbers. The other letters apply to narrow pages. There "h" repeats the heading in each cell, "w" allows
-// line breaks, "f" cuts the text with an ellipsis so that the following text has room, and "x" hides the column. The
-// arrow keys move in a list, and Enter chooses a row.
+// with "n" contains numbers. The other letters apply to narrow pages: "h" repeats the heading in every cell, "w" allows
+// line breaks, "f" cuts the text with an ellipsis so that the text after it has room, and "x" hides the column. The
+// arrow keys move through a list, and Enter chooses a row.
 class Rolling {
   constructor(id, columns, cellsOf, choose = null) {
     Object.assign(this, { columns, cellsOf, choose, list: [], active: 0, rows: new Map() });
@@ -33,7 +34,7 @@ class Rolling {
   get line() { return window.innerWidth < 420 ? 64 : isNarrow() ? 44 : 22; }
   get inView() { return Math.max(Math.floor((this.box.clientHeight - this.head.offsetHeight) / this.line), 1); }
   get whole() { return Math.min(this.list.length * this.line, MOST_ROOM); }
-  // How many pixels one row takes in the scroll range.
+  // How many pixels of the scroll range one row occupies.
   get step() { return this.list.length ? this.whole / this.list.length : 1; }
   get isVisible() { return this.box.offsetParent !== null; }
   set(list) {
@@ -113,7 +114,7 @@ class Rolling {
     if (by) this.follow(Number(place) + by);
     this.focus();
   }
-  // On paper the list shows its first rows, and a note with the number of all rows.
+  // On paper the list shows its first rows, and a note that says how many rows there are in total.
   print(isOn) {
     const most = 60;
     this.note.hidden = !isOn || this.list.length <= most;
@@ -124,7 +125,7 @@ class Rolling {
   }
 }
 
-// Makes tabs. The page calls `shown` with the name of the tab that becomes visible.
+// Sets up tabs. Calls `shown` with the name of the tab that becomes visible.
 function makeTabs(id, shown) {
   const tabs = [...at(id).querySelectorAll("[role=tab]")];
   const choose = tab => {
@@ -150,7 +151,7 @@ function makeTabs(id, shown) {
   return name => choose(tabs.find(tab => tab.getAttribute("aria-controls") === name));
 }
 
-// Buttons that choose kinds. If no kind is chosen, all are shown. `numbers` has the count of each kind.
+// Buttons that select kinds. If no kind is selected, all kinds are shown. `numbers` maps each kind to its count.
 class Chips {
   constructor(id, changed) {
     Object.assign(this, { box: at(id), changed, chosen: new Set(), made: new Map() });
@@ -184,7 +185,7 @@ class Chips {
   }
 }
 
-// Saves a list as a file for a spreadsheet: comma-separated values (RFC 4180), with numbers without separators between
+// Saves a list as a file for a spreadsheet: comma-separated values (RFC 4180). Numbers have no separators between
 // groups of digits.
 
 function csvOf(list, panel) {

@@ -1,12 +1,12 @@
-"""The live page of `canbusd watch`: its news, and the web server that sends them to browsers.
+"""The live page of `canbusd watch`: its updates, and the web server that sends them to browsers.
 
-All local users, and all web sites that are open in a browser, can connect to 127.0.0.1. So the path of each request has
-to begin with a token that only the URL of the page contains. The request also has to name this machine as its host,
+All local users, and all web sites that are open in a browser, can connect to 127.0.0.1. So the path of every request
+has to begin with a token that only the URL of the page contains. The request also has to name this machine as its host,
 which excludes sites whose name resolves to this machine. If the server is at a Unix path, which file permissions
 protect, the browser has to belong to the user who runs the command.
 
-The page requests each of its actions, such as sending a frame, by POST. The request has to have the page's own origin,
-and the token in a header, which no other site can make a browser send. A GET changes nothing.
+The page uses POST to request an action, such as sending a frame. The request has to come from the page's own origin,
+with the token in a header that no other site can make a browser send. A GET changes nothing.
 """
 
 import base64
@@ -46,17 +46,18 @@ SCRIPTS = (
 ACTS, ACT_SCRIPTS, ACT_STYLES = "watch_acts.html", ("watch_acts.js",), ("watch_acts.css",)
 # The maximum number of earlier ticks and frames that a newly opened page receives.
 MOST_TICKS, MOST_FRAMES = 2400, 4000
-# Times in seconds: how long pages have to receive the news that the server has ended, how long a connection may be
+# Times in seconds: how long pages have to receive the message that the server has ended, how long a connection may be
 # silent, and the pause before the next attempt if there is no free file descriptor.
 CLOSE_TIMEOUT, REQUEST_TIMEOUT, PAUSE = 2.0, 10.0, 0.2
-# If there is no news for this many seconds, a page gets an empty list. This write fails if the page was closed.
+# If there is no update for this many seconds, a page gets an empty update. Writing it fails if the page was closed.
 BEAT = 1.0
-# The maximum number of connections without a request, and the maximum size in bytes of a request and of its body.
+# The maximum number of connections that have not sent a request, and the maximum size in bytes of a request and of its
+# body.
 MOST_WAITING, MOST_BYTES, MOST_BODY = 64, 65536, 16384
 # The name of the header with the token.
 TOKEN = "X-Canbusd-Token"
-# The headers of each answer. Browsers must not cache the answer, guess its type, show it to other sites, or send its
-# URL to them.
+# The headers of every response. Browsers must not cache the response, guess its type, show it to other sites, or send
+# its URL to them.
 HEADERS = {
     "Cache-Control": "no-store",
     "Cross-Origin-Resource-Policy": "same-origin",
@@ -77,13 +78,14 @@ Row = list[Any]
 
 
 class Board:
-    """The news of the pages: for each tick the counts of the interfaces, and the frames that arrived since the previous
-    tick."""
+    """The updates for the pages: for each tick, the counts of the interfaces and the frames that arrived since the
+    previous tick."""
 
     def __init__(self) -> None:
         self._changed = threading.Condition()
         self._ticks: deque[Json] = deque(maxlen=MOST_TICKS)
-        # Frames, faults and changes of state are kept separately, so that a flood of one does not displace the others.
+        # Frames, faults and changes of state are stored separately, so that a flood of one kind does not displace the
+        # others.
         self._kept = [deque[Row](maxlen=MOST_FRAMES) for _ in range(3)]
         self._last: tuple[int, Json] = (0, {})
         self._end: Optional[str] = None
@@ -99,15 +101,15 @@ class Board:
             self._changed.notify_all()
 
     def end(self, reason: str) -> None:
-        """Ends the news, and waits until the pages have received this."""
+        """Ends the updates, and waits until all pages have received the reason."""
         with self._changed:
             self._end = reason
             self._changed.notify_all()
             self._changed.wait_for(lambda: not self._readers, CLOSE_TIMEOUT)
 
     def news(self) -> Iterator[Json]:
-        """Yields the news for a page: first all that was kept, then each tick, or empty news if nothing happened. The
-        last item is the reason for the end."""
+        """Yields the updates for a page: first everything that was stored, then each tick, or an empty update if
+        nothing happened. The last update is the reason for the end."""
         with self._changed:
             self._readers += 1
         try:
@@ -121,7 +123,7 @@ class Board:
                     if not has_news:
                         news = {"ticks": [], "frames": []}
                     elif seen < 0 or number != seen + 1:
-                        # A new page, or one that reads too slowly, starts again with all that was kept.
+                        # A new page, or one that reads too slowly, starts again with everything that was stored.
                         rows = sorted(itertools.chain(*self._kept), key=operator.itemgetter(0))
                         news = {"start": True, "ticks": list(self._ticks), "frames": rows}
                     seen = number
@@ -134,15 +136,15 @@ class Board:
 
 
 class Pages(ThreadingHTTPServer):
-    """Serves the page, and its news as server-sent events, to browsers that have its URL."""
+    """Serves the page, and its updates as server-sent events, to browsers that know its URL."""
 
-    # A connection without a request must not delay the end of the process.
+    # A connection that sends no request must not delay the end of the process.
     daemon_threads = True
     request_queue_size = 128
 
     def __init__(self, port: int, board: Board, known: Json, is_own: bool, acts: Optional[Acts]) -> None:
-        """Opens the port. If `is_own` is true, only the user who runs the server gets the page. Without `acts` the page
-        has no actions."""
+        """Opens the port. If `is_own` is true, only the user who runs the server may load the page. If `acts` is None,
+        the page has no actions."""
         self._waiting: dict[socket.socket, None] = {}
         self._lock = threading.Lock()
         super().__init__(("127.0.0.1", port), Request)
@@ -160,22 +162,22 @@ class Pages(ThreadingHTTPServer):
         return f"http://127.0.0.1:{self.server_address[1]}/{self._token}/"
 
     def admits(self, hosts: list[str], token: str, client: tuple[str, int]) -> bool:
-        """Returns whether a request is accepted. This depends on its `Host` headers, on the token in its path and on
-        its user."""
+        """Returns whether a request is accepted. This depends on its `Host` headers, on the token in its path, and on
+        the user who sends it."""
         port = self.server_address[1]
         is_here = hosts in ([f"127.0.0.1:{port}"], [f"localhost:{port}"])
         has_token = secrets.compare_digest(token.encode(), self._token.encode())
         return is_here and has_token and not (self._is_own and user_of(client, ("127.0.0.1", port)) != os.geteuid())
 
     def trusts(self, host: str, origins: list[str], tokens: list[str]) -> bool:
-        """Returns whether the page at this host requests an action. This depends on the origin, and on the token in a
-        header."""
+        """Returns whether a request for an action comes from the page at this host. This depends on the origin, and on
+        the token in a header."""
         has_token = len(tokens) == 1 and secrets.compare_digest(tokens[0].encode(), self._token.encode())
         return has_token and origins == [f"http://{host}"]
 
     def get_request(self) -> tuple[Any, Any]:
-        """Accepts a connection. If there is no free file descriptor, waits a little so that the caller's loop does not
-        use up a processor."""
+        """Accepts a connection. If there is no free file descriptor, waits briefly, so that the caller's loop does not
+        keep a processor busy."""
         try:
             return super().get_request()
         except OSError:
@@ -184,7 +186,7 @@ class Pages(ThreadingHTTPServer):
 
     def process_request(self, request: Any, client_address: Any) -> None:
         """Serves a connection. If too many connections have not sent a request, closes the oldest of them, so that
-        others can connect."""
+        other clients can connect."""
         with self._lock:
             self._waiting[request] = None
             oldest = next(iter(self._waiting)) if len(self._waiting) > MOST_WAITING else None
@@ -194,7 +196,8 @@ class Pages(ThreadingHTTPServer):
         super().process_request(request, client_address)
 
     def asks(self, request: socket.socket) -> None:
-        """Notes that a connection no longer waits, because its request was accepted or it is being closed."""
+        """Records that a connection does not need to send a request any more, because its request was accepted or
+        because it is being closed."""
         with self._lock:
             self._waiting.pop(request, None)
 
@@ -204,13 +207,13 @@ class Pages(ThreadingHTTPServer):
         super().shutdown_request(request)
 
     def handle_error(self, request: Any, client_address: Any) -> None:
-        """Ignores errors that occur because a browser has closed its connection."""
+        """Ignores errors that occur because a browser closed its connection."""
         if not isinstance(sys.exc_info()[1], OSError):
             super().handle_error(request, client_address)
 
 
 def shut_down(connection: socket.socket) -> None:
-    """Shuts a connection down. Its thread closes it afterwards."""
+    """Shuts down a connection. The thread of the connection closes it afterwards."""
     try:
         connection.shutdown(socket.SHUT_RDWR)
     except OSError:
@@ -218,7 +221,7 @@ def shut_down(connection: socket.socket) -> None:
 
 
 def opened(port: int, board: Board, known: Json, is_own: bool, acts: Optional[Acts] = None) -> Pages:
-    """Opens the port and returns the server. If the port can't be opened, the error names it."""
+    """Opens the port and returns the server. If the port can't be opened, the error message names the port."""
     try:
         return Pages(port, board, known, is_own, acts)
     except OSError as fault:
@@ -227,7 +230,7 @@ def opened(port: int, board: Board, known: Json, is_own: bool, acts: Optional[Ac
 
 
 def policy_of(page: str) -> str:
-    """Returns the content security policy of a page. It allows only the page's one script and one style."""
+    """Returns the content security policy of a page. It allows only the one script and the one style in the page."""
     parts = (page.partition(f"<{name}>")[2].partition(f"</{name}>")[0] for name in ("script", "style"))
     return POLICY.format(*(base64.b64encode(hashlib.sha256(part.encode()).digest()).decode() for part in parts))
 
@@ -239,8 +242,8 @@ def user_of(client: tuple[str, int], server: tuple[str, int]) -> Optional[int]:
         ends = " ".join(f"{words_of(prefix + host)}:{port:04X}" for host, port in (client, server))
         try:
             with open(f"/proc/net/{table}", encoding="ascii") as file:
-                # The fields after the two addresses are state 01 (established), the queues, the timer, the
-                # retransmissions and the user.
+                # After the two addresses there are: state 01 (established), the queues, the timer, the retransmissions
+                # and the user.
                 found = re.search(rf"^ *\d+: {ends} 01 \S+ \S+ \S+ +(\d+) ", file.read(), re.M)
         except FileNotFoundError:
             continue
@@ -250,26 +253,26 @@ def user_of(client: tuple[str, int], server: tuple[str, int]) -> Optional[int]:
 
 
 def words_of(host: str) -> str:
-    """Returns an IP address in the format of /proc/net: 0100007F for 127.0.0.1 on most machines."""
+    """Formats an IP address as in /proc/net: 0100007F for 127.0.0.1 on most machines."""
     packed = socket.inet_pton(socket.AF_INET6 if ":" in host else socket.AF_INET, host)
     return "".join(f"{word:08X}" for word in struct.unpack(f"={len(packed) // 4}I", packed))
 
 
 class Bounded:
-    """A request of which at most MOST_BYTES bytes can be read."""
+    """A request from which at most MOST_BYTES bytes can be read."""
 
     def __init__(self, file: BinaryIO) -> None:
         self._file, self._left = file, MOST_BYTES
         self.close = file.close
 
     def readline(self, most: int) -> bytes:
-        """Reads a line, or at most `most` bytes of it."""
+        """Reads a line, but at most `most` bytes."""
         line = self._file.readline(min(most, self._left))
         self._left -= len(line)
         return line
 
     def read(self, size: int) -> bytes:
-        """Reads `size` bytes, or all that remain if these are fewer."""
+        """Reads `size` bytes, or fewer if fewer remain."""
         found = self._file.read(min(size, self._left))
         self._left -= len(found)
         return found
@@ -280,7 +283,7 @@ class Request(BaseHTTPRequestHandler):
 
     server: Pages
     rfile: Any
-    # Applies to connections that send no request, and to pages that do not read their news.
+    # This applies to connections that send no request, and to pages that do not read their updates.
     timeout = REQUEST_TIMEOUT
 
     def setup(self) -> None:
@@ -301,7 +304,7 @@ class Request(BaseHTTPRequestHandler):
         return True
 
     def do_GET(self) -> None:
-        """Sends the page, or the news."""
+        """Sends the page or its updates."""
         if self.path == "":
             self.start("text/html; charset=utf-8")
             self.wfile.write(self.server.page)
@@ -312,7 +315,7 @@ class Request(BaseHTTPRequestHandler):
             self.send_error(HTTPStatus.NOT_FOUND)
 
     def do_POST(self) -> None:
-        """Carries out an action that the page requests. If there are no actions, the answer is that POST is not
+        """Performs an action that the page requests. If there are no actions, the response is that POST is not
         supported."""
         acts = self.server.acts
         if acts is None or self.path not in acts.by_name:
@@ -331,7 +334,7 @@ class Request(BaseHTTPRequestHandler):
             self.act(acts, self.rfile.read(int(size)))
 
     def act(self, acts: Acts, text: bytes) -> None:
-        """Carries out the action in this text, which is a JSON object, and sends the result."""
+        """Performs the action that this JSON object requests, and sends the result."""
         try:
             asked = json.loads(text)
         except (ValueError, RecursionError):
@@ -344,19 +347,19 @@ class Request(BaseHTTPRequestHandler):
         self.wfile.write(answer)
 
     def start(self, kind: str) -> None:
-        """Sends the header of a successful answer."""
+        """Sends the header of a successful response."""
         self.send_response(HTTPStatus.OK)
         self.send_header("Content-Type", kind)
         self.end_headers()
 
     def end_headers(self) -> None:
-        """Adds the headers that all answers have, and ends the header."""
+        """Adds the headers that all responses have, and ends the header."""
         for name, value in {**HEADERS, "Content-Security-Policy": self.server.policy}.items():
             self.send_header(name, value)
         super().end_headers()
 
     def send_news(self) -> None:
-        """Sends the news until they end or the browser closes the connection."""
+        """Sends the updates until they end or the browser closes the connection."""
         acts = self.server.acts
         with acts.page() if acts else contextlib.nullcontext(Json) as of_page:
             for news in self.server.board.news():

@@ -1,4 +1,4 @@
-// The actions of the reader: moving, zooming and choosing.
+// The user's actions: moving, zooming and choosing.
 
 function look(from, to) {
   const span = Math.min(Math.max(to - from, axis.least), axis.length);
@@ -78,7 +78,7 @@ function showTip(tip, event, text) {
   tip.style.top = Math.max(4, isLow ? event.clientY - tip.offsetHeight - 10 : below) + "px";
 }
 
-// Redraws when the colours or the width change, and uses the colours for paper while the page is printed.
+// Redraws when the colours or the width change. While the page is printed, uses the colours for paper.
 function keepDrawn(draw, print) {
   drawing = draw;
   const again = () => { readTheme(); layer = ""; drawing(); };

@@ -1,6 +1,7 @@
-// Shows another run on the axis of this run, with a lane for each of its nodes. On the axis by attempts, each of its
-// attempts is at the place of the matching attempt here. An attempt that only the other run has is between its
-// neighbours. On the axis by time, all attempts are at their times since the first attempt of the other run.
+// Shows another run on the axis of this run, with a lane for each node of the other run. On the axis by attempts, each
+// attempt of the other run is at the position of the matching attempt of this run. An attempt that only the other run
+// contains is between its neighbours. On the axis by time, all attempts are at their times since the first attempt of
+// the other run.
 
 const other = {};
 on("taken", column => {
@@ -10,8 +11,8 @@ on("taken", column => {
   other.partner.forEach((number, k) => { if (number) other.partnerOf[number - 1] = k; });
   other.spans = [spansByAttempt(), [other.since, other.since.map((since, k) => since + other.took[k])]];
 });
-// The start and the end of each attempt. Attempts between two attempts of this run share the space around the border
-// between them.
+// The start and the end of each attempt. Attempts that fall between two attempts of this run share the space around the
+// border between these.
 const HALF = 0.3;
 function spansByAttempt() {
   const starts = new Float64Array(other.count), ends = new Float64Array(other.count), { start } = axes[0], between = new Map();
@@ -38,7 +39,7 @@ class OtherLane {
   }
   draw(plot, top, fills) {
     const [starts, ends] = other.spans[Number(byTime.isOn)], kinds = new Uint8Array(plot.width);
-    // Attempts that only the other run has are drawn over their neighbours.
+    // Attempts that only the other run contains are drawn over their neighbours.
     for (const isPaired of byTime.isOn ? [null] : [true, false]) {
       for (let k = 0; k < other.count; k++) {
         if (other.iface[k] !== this.number || starts[k] > view.to || isPaired !== null && isPaired !== other.partner[k] > 0) continue;
@@ -49,7 +50,7 @@ class OtherLane {
         else this.bar(plot, k, left, Math.max(room - (room > 5 ? 1 : 0), 1), top, fills);
       }
     }
-    // If several attempts fall into a pixel, it shows the worst one.
+    // If a pixel contains several attempts, it shows the worst one.
     kinds.forEach((kind, x) => { if (kind) block(plot.pen, fills[KINDS[kind - 1]], x, top + 2, byTime.lengthOf ? 2 : 1, STRIP - 4); });
     this.outages(plot, top + STRIP + 2, fills);
     across(plot, top + this.height - 4, theme.line);

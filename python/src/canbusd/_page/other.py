@@ -1,4 +1,4 @@
-"""The data of another run on the page of a run: its attempts, their places among the attempts of this run, and the
+"""The data of another run on the page of a run: its attempts, their positions among the attempts of this run, and the
 differences."""
 
 from collections.abc import Callable, Iterable
@@ -18,7 +18,7 @@ Column = list[Any]
 def other_of(
     comparison: Comparison, rates: Optional[Rates], column: Callable[[str, Iterable[float]], Column]
 ) -> dict[str, Any]:
-    """Returns the names, the texts and the attempts of the other run, and the differences. `column` makes the
+    """Returns the names, the strings and the attempts of the other run, and the differences. `column` creates the
     columns."""
     _, names = comparison.names
     attempts, partners = comparison.other, comparison.partners
@@ -33,8 +33,8 @@ def other_of(
         "kind": column("B", (KINDS.index(one.outcome) for one in attempts)),
         "iface": column("B", (names.index(one.winner) for one in attempts)),
         "line": column("I", lines),
-        # `partner` is 1 plus the number of the matching attempt in this run, or 0 if there is none. `place` is the
-        # attempt in this run that follows the partners of all earlier attempts.
+        # `partner` is 1 plus the index of the matching attempt in this run, or 0 if there is none. `place` is the
+        # position among the attempts of this run: just after the partners of all earlier attempts.
         "partner": column("I", (partners.get(number, -1) + 1 for number in range(len(attempts)))),
         "place": column("I", places(partners, len(attempts))),
         # Times in seconds. `since` is the start relative to the first attempt of the other run, and `took` is the
@@ -47,7 +47,7 @@ def other_of(
 
 
 def spans_of(run: Replay, rates: Optional[Rates]) -> list[tuple[int, int]]:
-    """Returns when each attempt begins and ends, in nanoseconds. Without bit rates both are its timestamp."""
+    """Returns the start and end of each attempt, in nanoseconds. Without bit rates, both are the attempt's timestamp."""
     if rates is not None:
         return [(slot.begin, slot.over) for slot in slots_of(timed(run, rates))]
     steps = run.steps
@@ -55,8 +55,8 @@ def spans_of(run: Replay, rates: Optional[Rates]) -> list[tuple[int, int]]:
 
 
 def away_of(run: Replay, spans: list[tuple[int, int]], start: int) -> list[list[float]]:
-    """Returns the outages. Each has the interface, its state, and the attempt and the time in seconds at its start and
-    at its end."""
+    """Returns the outages. Each contains the interface, its state, and the attempt and the time in seconds at the start
+    and at the end."""
     steps, attempt = run.steps, 0
     found: list[list[float]] = []
     since: dict[int, tuple[int, int, float]] = {}

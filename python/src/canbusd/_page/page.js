@@ -1,4 +1,4 @@
-// Keys, clicks and drags of the reader.
+// Handles the user's keys, clicks and drags.
 
 function choose(step) {
   if (!axis.count) return;
@@ -43,7 +43,7 @@ function stepOfAttempt(number) {
   }
   return Math.min(low, Math.max(axis.count - 1, 0));
 }
-// Switches to the other axis, with the same steps in view.
+// Switches to the other axis, and keeps the same steps in view.
 function turnAxis() {
   const first = axis.stepAt(view.from), last = Math.min(axis.from(view.to), axis.count);
   showAxis(!byTime.isOn);
@@ -77,7 +77,7 @@ function listen() {
   listenToTime();
   listenToKeys(KEYS);
   window.addEventListener("hashchange", event => {
-    // Uses the address of this event, because the page may have another one by now: `sayHash` runs with a delay.
+    // Uses the address in this event, because the page's address may have changed by now: `sayHash` runs with a delay.
     const words = hashWords(new URL(event.newURL).hash);
     if (run.other && (words.get("run") === "2") !== wasOtherRun) { location.reload(); return; }
     readHash(words);

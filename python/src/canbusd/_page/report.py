@@ -1,13 +1,13 @@
-"""Makes a page that shows a run. The page is one file with its style, its script and the columns of the replay.
+"""Creates a page that shows a run. The page is one file with its style, its script and the columns of the replay.
 
-If a file of messages is given (`--dbc`), the header of the data has two more objects, whose keys are places in `texts`
-as in `meanings`. `messages` has the name of the message of each frame that the file knows. `signals` has a list of
-[signal, value, unit] for each of these frames. A value is a number, or a text if the file has names for numbers. A unit
-is a text, which may be empty. The list is empty for a frame that is shorter than its message. Without a file both
-objects are empty.
+If a database file is given (`--dbc`), the header of the data has two more objects. Their keys are indices into `texts`,
+like those of `meanings`. `messages` contains the name of the message for each frame that the file describes. `signals`
+contains a list of [signal, value, unit] for each of these frames. A value is a number, or a string if the file has
+names for numbers. A unit is a string, which may be empty. The list is empty for a frame that is shorter than its
+message. Without a file both objects are empty.
 
 If bit rates are given, the header also has an object `wire`, and if the run is compared with another run, an object
-`other`. The page then has a script for each of them.
+`other`. The page then includes a script for each of them.
 """
 
 import base64
@@ -36,7 +36,7 @@ from canbusd.frames import Frame, meaning
 from canbusd.replay import UNKNOWN, Replay
 from canbusd.signals import Database
 
-# The scripts of a page in their order. The last script, which starts the page, is added later.
+# The scripts of a page, in order. The last script, which starts the page, is added later.
 SCRIPTS = (
     *("core", "lanes", "moves", "lists", "run", "strips", "signals"),
     *("chosen", "bits", "cursors", "run_signals", "identifiers"),
@@ -51,19 +51,19 @@ class Block:
     """Compresses the data of a page in this order: the columns, the header as JSON, and the size of the header in bytes
     as a little-endian number.
 
-    A column has the lowest bytes of all its numbers first, then the next bytes, and so on. So similar bytes are
-    together, which makes the compressed data small and the compression fast.
+    A column stores the lowest bytes of all its numbers first, then the next bytes, and so on. So similar bytes are next
+    to each other, which makes the compressed data small and the compression fast.
     """
 
     def __init__(self) -> None:
         self._packer = zlib.compressobj(1)
-        # zlib releases the lock of the interpreter, so the next column can be made at the same time.
+        # zlib releases the interpreter lock, so the next column can be prepared in the meantime.
         self._pool = concurrent.futures.ThreadPoolExecutor(1)
         self._parts: list[concurrent.futures.Future[bytes]] = []
         self._size = 0
 
     def column(self, code: str, numbers: Iterable[float]) -> Column:
-        """Adds a column, and returns its type, its offset and its length."""
+        """Adds a column. Returns its type, its offset and its length."""
         if isinstance(numbers, array) and numbers.typecode == code:
             column: array[Any] = numbers
         else:
@@ -73,11 +73,11 @@ class Block:
         return [code, self._add(b"".join(text[first :: column.itemsize] for first in firsts)), len(column)]
 
     def text(self, text: bytes) -> Column:
-        """Adds a text as a column of its bytes."""
+        """Adds encoded text as a column of bytes."""
         return ["B", self._add(text), len(text)]
 
     def packed(self, header: Json) -> str:
-        """Returns the compressed columns and header in base64."""
+        """Returns the compressed columns and header, encoded in base64."""
         text = json.dumps(header, separators=(",", ":")).encode()
         self._add(text + struct.pack("<I", len(text)))
         with self._pool:
@@ -86,7 +86,7 @@ class Block:
 
     def _add(self, text: bytes) -> int:
         """Adds bytes, and returns their offset."""
-        # At most two parts wait for compression, because parts may be large.
+        # At most two parts wait for compression, because they may be large.
         concurrent.futures.wait(self._parts[-2:-1])
         self._parts.append(self._pool.submit(self._packer.compress, text))
         self._size += len(text)
@@ -94,24 +94,24 @@ class Block:
 
 
 class Timeline:
-    """The steps and the idle attempts of a run as columns. Each step has a row, and each sequence of idle attempts has
-    a row."""
+    """The steps and the idle attempts of a run as rows. Each step has one row, and each sequence of consecutive idle
+    attempts has one row."""
 
     def __init__(self, run: Replay) -> None:
         self.steps, self.ifaces = run.steps, len(run.ifaces)
         #: The row of each step.
         self.places: Sequence[int] = range(len(self.steps))
-        #: The rows of idle attempts, each with the number of these attempts.
+        #: The rows of idle attempts, each with the number of attempts that it stands for.
         self.idle: list[tuple[int, int]] = []
-        # The ranges of steps whose rows follow each other. Except in the last range, the last step gives the row of
-        # idle attempts.
+        # Slices of a column of steps that together yield the column of rows. In each slice but the last, the last
+        # number is for the row of idle attempts before that step.
         self._pieces: list[slice] = []
         if run.idle:
             self._place_idle([*self.steps.idle, run.idle_since])
 
     def _place_idle(self, idle: Sequence[int]) -> None:
-        """Adds a row before each step that follows idle attempts, and a row after the last step for idle attempts at
-        the end."""
+        """Adds a row before each step that follows idle attempts. If the run ends with idle attempts, also adds a row
+        after the last step."""
         ends = [*itertools.compress(itertools.count(), idle), len(self.steps)]
         firsts = [0, *ends[:-1]]
         self.idle = [(step + before, idle[step]) for before, step in enumerate(firsts[1:])]
@@ -120,10 +120,10 @@ class Timeline:
         self.places = array("I", itertools.chain.from_iterable(rows))
 
     def shown(self, column: "array[int]", end: Optional[int] = None) -> "array[int]":
-        """Converts a column with a number for each step to a number for each row. Idle attempts get the number of the
-        step after them.
+        """Converts a column with a number for each step into a column with a number for each row. A row of idle
+        attempts gets the number of the step after it.
 
-        Idle attempts after the last step get `end`, or the number of the last step if `end` is None.
+        If there is no step after it, the row gets `end`, or the number of the last step if `end` is None.
         """
         if not self.idle:
             return column
@@ -133,33 +133,34 @@ class Timeline:
         return array(column.typecode, b"".join(map(padded.__getitem__, self._pieces)))
 
     def rows(self, column: "array[int]", idle: int = 0) -> "array[int]":
-        """Converts a column from steps to rows. Rows of idle attempts get the number `idle`."""
+        """Converts a column from steps to rows. A row of idle attempts gets the number `idle`."""
         found = self.shown(column)
         for row, _ in self.idle:
             found[row] = idle
         return found
 
     def numbers(self) -> "array[int]":
-        """Returns the number of the frame in each row, or how many idle attempts the row stands for."""
+        """Returns the number of the frame in each row. For a row of idle attempts, returns how many attempts it stands
+        for."""
         found = self.shown(self.steps.numbers)
         for row, many in self.idle:
             found[row] = many
         return found
 
     def counts(self, place: int) -> "array[int]":
-        """Returns a column of error counts after each row."""
+        """Returns a column with an error count after each row."""
         return self.lasting(self.steps.counts[place :: 2 * self.ifaces])
 
     def lasting(self, column: "array[int]") -> "array[int]":
-        """Converts a column from steps to rows. Rows of idle attempts repeat the number of the row before them."""
+        """Converts a column from steps to rows. A row of idle attempts repeats the number of the row before it."""
         found = self.shown(column)
         for row, _ in self.idle:
             found[row] = found[row - 1] if row else 0
         return found
 
     def faults(self, rules: Sequence[str]) -> tuple["array[int]", list[str]]:
-        """Returns the verdict of each row, and the texts of all verdicts. If the rule behind a verdict is known, it
-        follows the text after a line feed."""
+        """Returns the verdict of each row as an index, and the list of the different verdicts. If the rule that caused
+        a verdict is known, it follows the verdict after a line feed."""
         steps = self.steps
         if not rules:
             return self.rows(steps.verdicts), steps.verdict_texts.all
@@ -172,7 +173,7 @@ class Timeline:
         return self.rows(ruled), texts.all
 
     def columns(self, block: Block, faults: "array[int]") -> Json:
-        """Returns the columns of the rows. A row of idle attempts has only the number of these attempts."""
+        """Returns the columns of the rows. A row of idle attempts contains only the number of these attempts."""
         steps, moments = self.steps, self.shown(self.steps.moments)
         return {
             "kind": block.column("B", self.rows(steps.kinds, IDLE)),
@@ -200,7 +201,7 @@ class Timeline:
 
 
 def items_of(items: Items, most: int, timeline: Timeline, block: Block) -> Json:
-    """Returns the columns of the first items. An item that is no error message frame has the sender and the frame
+    """Returns the columns of the first items. An item that is not an error message frame has the sender and the frame
     number of its step."""
     steps, ends = items.steps[:most], items.ends(most)
     if timeline.idle:
@@ -209,16 +210,17 @@ def items_of(items: Items, most: int, timeline: Timeline, block: Block) -> Json:
     return {
         "socket": block.column("I", items.sockets[:most]),
         "step": block.column("I", steps),
-        # 0 for the frame of the step, or the place of an error message frame among the texts.
+        # 0 if the item is the frame of the step, otherwise the index of an error message frame in `texts`.
         "error": block.column("I", items.errors[:most]),
         "fate": block.column("B", items.fates()[:most]),
-        # The first row in which the item is no longer in its queue. 0 if it stays in the queue, or never entered it.
+        # The first row in which the item is no longer in its queue, or 0 if the item stays in the queue or never
+        # entered it.
         "end": block.column("I", ends),
     }
 
 
 def ifaces_of(run: Replay) -> list[Json]:
-    """Returns the interfaces at the end of the run, with the numbers of sends that were refused because the queue was
+    """Returns the interfaces at the end of the run. This includes how many sends were refused because the queue was
     full, or because the interface was bus off or down."""
     return [
         {
@@ -238,7 +240,7 @@ def ifaces_of(run: Replay) -> list[Json]:
 
 
 def socket_of(socket: Socket) -> Json:
-    """Returns the facts of a socket at the end of the run."""
+    """Returns the properties and counts of a socket at the end of the run."""
     return {
         "number": socket.number,
         "iface": socket.iface,
@@ -253,10 +255,10 @@ def socket_of(socket: Socket) -> Json:
 
 
 def decoded_of(texts: Iterable[str], database: Optional[Database]) -> Json:
-    """Returns the messages and signals of the frames that the file knows, by the places of the frames."""
+    """Returns the messages and signals of the frames that the database describes, by the indices of the frames."""
     messages: Json = {}
     signals: Json = {}
-    # Without a file the texts are skipped, because there may be a million of them.
+    # Without a database the frames are skipped, because there may be a million of them.
     for place, text in enumerate(texts) if database is not None else ():
         is_frame = text not in ("", UNKNOWN)
         decoded = database.decode(Frame.parse(text)) if database is not None and is_frame else None
@@ -266,20 +268,20 @@ def decoded_of(texts: Iterable[str], database: Optional[Database]) -> Json:
 
 
 def meanings_of(run: Replay) -> dict[int, str]:
-    """Returns the meanings of error message frames, and of items whose frame is unknown, by their places among the
-    texts."""
+    """Maps the index of a frame in `texts` to its meaning, for error message frames and for items whose frame is
+    unknown."""
     unknown, texts = {UNKNOWN: "a frame or an error message frame"}, run.texts.all
     return {place: unknown.get(texts[place]) or meaning(texts[place]) for place in sorted({0, *run.items.errors})[1:]}
 
 
 def event_of(event: Event, places: Sequence[int]) -> Column:
-    """Returns an event as a list: its row, its kind, its interface and its words."""
+    """Returns an event as a list: its row, its kind, its interface and its description."""
     return [places[event.step] if event.step >= 0 and places else 0, event.kind, event.iface, event.words]
 
 
 def lost_frames(run: Replay, places: Sequence[int]) -> Json:
-    """Returns the lost frames by the row of their step: the number and text of each frame that was removed from a
-    transmit queue because its interface went bus off or down."""
+    """Maps the row of a step to the frames that were removed from a transmit queue because its interface went bus off
+    or down. Each frame is given by its number and its content."""
     return {str(places[step]): [[number, run.texts[text]] for number, text in lost] for step, lost in run.lost.items()}
 
 
@@ -290,8 +292,8 @@ def fault_of(fault: str, names: Sequence[str]) -> str:
 
 
 def fullest_socket(run: Replay) -> int:
-    """Returns the number of the socket that dropped the most items. If none dropped any, returns the socket with the
-    most items."""
+    """Returns the number of the socket that dropped the most items. If no socket dropped any, returns the socket that
+    received the most items."""
     worst = max(run.sockets, key=lambda socket: (socket.dropped, socket.queued), default=None)
     return worst.number if worst else 0
 
@@ -306,12 +308,12 @@ def data_of(
     rates: Optional[Rates] = None,
     comparison: Optional[Comparison] = None,
 ) -> str:
-    """Returns the data of a page in the form that its script reads."""
+    """Returns the data of a page in the form that the page's script reads."""
     block, timeline, events = Block(), Timeline(run), events_of(run, names)
     places, texts = timeline.places, run.texts
     heading, first = heading_of(run, names, events)
     faults, verdicts = timeline.faults(rules)
-    # This comes before the texts are used, because it adds the texts of frames that were never tried.
+    # This has to be done before `texts` is used, because it adds frames that were never tried.
     lost = lost_frames(run, places)
     header = {
         "title": title,
@@ -319,8 +321,8 @@ def data_of(
         "first": places[first] if places else 0,
         "facts": facts_of(run),
         "names": list(names),
-        # One frame per line, and there may be a million. zlib compresses them while the outcomes of the items are
-        # computed.
+        # There is one frame per line, and there may be a million lines. zlib compresses them while the outcomes of the
+        # items are computed.
         "texts": block.text("\n".join(texts).encode()),
         "items": items_of(run.items, most_items, timeline, block),
         "steps": timeline.columns(block, faults),
@@ -345,13 +347,13 @@ def data_of(
 
 
 def ends_of(run: Replay) -> Json:
-    """Returns the part of the header about interfaces and sockets at the end of the run."""
+    """Returns the part of the header that describes the interfaces and sockets at the end of the run."""
     return {
         "ifaces": ifaces_of(run),
         "sockets": [socket_of(socket) for socket in run.sockets],
         "socket": fullest_socket(run),
-        # The first frame in each queue. If an interface takes part with a frame that it never tries later, it is this
-        # frame.
+        # The first frame in each queue. If an interface takes part in arbitration with a frame that it never tries
+        # later, it is this frame.
         "heads": ["".join(one.waiting[:1]) for one in run.ifaces],
     }
 
@@ -366,7 +368,7 @@ def page(
     rates: Optional[Rates] = None,
     comparison: Optional[Comparison] = None,
 ) -> str:
-    """Returns the page of a run with its first items, and with the rule of each attempt if `rules` is given.
+    """Returns the page of a run with at most `most_items` items, and with the rule of each attempt if `rules` is given.
 
     If the bit rates of the bus are given, the page shows the bus load. If a comparison is given, it also shows the
     other run and the differences.
@@ -384,7 +386,7 @@ def page(
 
 
 def filled(name: str, scripts: Sequence[str], styles: Sequence[str] = ("page.css",)) -> str:
-    """Returns a page without its data."""
+    """Returns a page without the data of a run."""
     parts = {"BODY": part(name), "STYLE": "".join(map(part, styles)), "SCRIPT": "".join(map(part, scripts))}
     text = part("shell.html")
     for place, content in parts.items():
@@ -394,6 +396,6 @@ def filled(name: str, scripts: Sequence[str], styles: Sequence[str] = ("page.css
 
 @functools.lru_cache(maxsize=None)
 def part(name: str) -> str:
-    """Returns the content of a file of the page."""
+    """Returns the content of a file that is part of a page."""
     with open(os.path.join(os.path.dirname(os.path.abspath(__file__)), name), encoding="utf-8") as file:
         return file.read()

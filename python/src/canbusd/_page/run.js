@@ -1,13 +1,13 @@
-// The page of a run. The data has the results of the replay in columns, and this script only shows them.
+// The page of a run. The data contain the results of the replay in columns, and this script only shows them.
 
-// The kinds of events, with the worst first.
+// The kinds of events, most severe first.
 const EVENTS = ["bus off", "down", "lost", "dropped", "refused", "passive", "warning", "active", "restart", "second copy"];
 const FATES = ["taken", "waiting", "unread", "dropped"];
 const FATE_WORDS = ["taken by the client", "waiting at the end", "unread at the close", "dropped: no room"];
 const DROPPED = 3;
 const ARRAYS = { B: Uint8Array, H: Uint16Array, I: Uint32Array, d: Float64Array };
 const STEP_WIDTH = { [RESTART]: 0.8, [DOWN]: 0.8, [IDLE]: 0.5 };
-// The axis, by attempts or by time. Without `lengthOf`, attempts are instants on the axis by time.
+// The axis, by attempts or by time. If there is no `lengthOf`, attempts are instants on the axis by time.
 const byTime = { isOn: false, lengthOf: null, ends: null };
 let run, steps, items, names, tec, rec, queues, downs, attemptOf, moments, axes, tallies, failures, firstMoment = 0;
 let chips, showTab, tab = "tab-events";
@@ -29,8 +29,8 @@ async function unpack(text) {
   const header = JSON.parse(new TextDecoder().decode(new Uint8Array(whole, end - size, size)));
   return { header, column: one => numbersIn(whole, ...one) };
 }
-// Returns the numbers of a column, which stores the lowest bytes of all numbers first. A column with `rises` stores
-// differences.
+// Returns the numbers of a column, which stores the lowest bytes of all numbers first. A column with `rises` stores the
+// differences between consecutive numbers.
 function numbersIn(whole, code, place, length, rises) {
   const numbers = new ARRAYS[code](length), size = numbers.BYTES_PER_ELEMENT;
   const from = [...Array(size).keys()].map(byte => new Uint8Array(whole, place + byte * length, length));
@@ -57,13 +57,13 @@ function take({ header, column }) {
   steps = columnsOf(run.steps, column);
   items = columnsOf(run.items, column);
   [tec, rec, queues] = [run.tec, run.rec, run.waiting].map(columns => columns.map(one => new Numbers(column(one))));
-  // For each node, the steps in which it is down. The list is empty if no node is ever down.
+  // For each node, whether it is down at each step. The list is empty if no node is ever down.
   downs = steps.down.some(set => set) ? names.map((_, i) => new Numbers(steps.down.map(set => set >> i & 1))) : [];
   placeSteps();
   sumUp();
   happened("taken", column);
 }
-// Computes the places of steps on both axes, the numbers of attempts, and the times of steps.
+// Computes the positions of steps on both axes, the numbers of the attempts, and the times of the steps.
 function placeSteps() {
   const count = steps.kind.length, byStep = new Float64Array(count + 1), byTime = new Float64Array(count + 1);
   attemptOf = new Uint32Array(count + 1);
@@ -89,7 +89,7 @@ function showAxis(isByTime) {
   axis = axes[Number(isByTime)];
   layer = "";
 }
-// Sums over steps: the attempts that each node won, by kind, and the failed attempts.
+// Computes sums over the steps: the attempts that each node won, by kind, and the failed attempts.
 function sumUp() {
   const count = steps.kind.length, codes = new Uint8Array(count);
   failures = new Uint8Array(count);
@@ -108,8 +108,8 @@ const won = (sums, iface, kind) => sums[1 + iface * IDLE + kind];
 const members = set => names.filter((_, i) => set >> i & 1);
 const listed = set => members(set).join(", ") || "nobody";
 const isAttempt = step => steps.kind[step] < RESTART;
-// A row of idle attempts has no single timestamp. Timestamps of the system's clock, in seconds since 1970, are shown as
-// times of day.
+// A row of idle attempts has no single timestamp. If timestamps come from the system clock (seconds since 1970), they
+// are shown as times of day.
 const momentOf = step => steps.kind[step] === IDLE ? ""
   : `${hasClock() ? clock(steps.seconds[step]) : steps.seconds[step]}.${String(steps.micros[step]).padStart(6, "0")}`;
 function dayWords() {
@@ -117,7 +117,8 @@ function dayWords() {
   const begin = new Date(steps.seconds[Math.max(0, firstStep())] * 1000);
   return ` Times of day: ${begin.toLocaleDateString("en-CA")}, ${begin.toString().match(/GMT[+-]\d{4}/)[0]}.`;
 }
-// The first attempt, and the seconds since then. If timestamps are times of day, the seconds are in a separate column.
+// The first attempt, and the seconds since then. If timestamps are shown as times of day, the seconds are in a separate
+// column.
 const firstStep = () => steps.kind.findIndex(kind => kind !== IDLE);
 const sinceStart = step => sinceStep(step, firstStep());
 const sinceStep = (step, first) => {

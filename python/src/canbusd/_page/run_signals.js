@@ -1,4 +1,4 @@
-// The signals in all frames that the run tried, and the steps in which each message was sent.
+// The signals in all frames that the run tried to send, and the steps in which each message was sent.
 
 const sentIn = new Map(), MOST_CURVES = 4;
 on("taken", () => {
@@ -18,12 +18,13 @@ on("taken", () => {
   const all = [...known].map(([key, one]) => ({ ...one, key })).sort((one, other) => one.key < other.key ? -1 : 1);
   signals.all = () => all;
   // The page first shows signals that change. Counters and checksums, which have no unit, are shown only if there is
-  // room.
+  // room for them.
   const changing = all.filter(({ changes }) => changes), meant = changing.filter(({ isMeant }) => isMeant);
   signals.changing = () => [...meant, ...changing.filter(({ isMeant }) => !isMeant)].slice(0, MOST_CURVES);
 });
 const valueOf = (step, name) => signalsOf(steps.frame[step]).find(([signal]) => signal === name)?.[1];
-// Returns the value in the last message with this signal up to the cursor. A multiplexed signal is not in each message.
+// Returns the signal's value in the last message that contains it, up to the cursor. A multiplexed signal is not in
+// every message.
 signals.at = ({ message, name }) => {
   const sent = sentIn.get(message) || [];
   let low = 0, high = sent.length;
@@ -48,7 +49,7 @@ signals.column = ({ message, name }) => {
   });
   return { of: of.fill(now, from), texts };
 };
-// Returns the code of a value. A number without a name gets a new code.
+// Returns the code of a value. A number that has no name gets a new code.
 function codeOf(texts, value) {
   const found = texts.indexOf(String(value));
   return found >= 0 ? found : texts.push(String(value)) - 1;

@@ -1,5 +1,5 @@
-// Signals, if a file of messages is given: a list of all signals with their values at the cursor, and a lane for each
-// chosen signal. The lane has a curve, or bands if the file has names for the values.
+// Signals, if a database file is given: a list of all signals with their values at the cursor, and a lane for each
+// chosen signal. The lane shows a curve, or bands if the file has names for the values.
 //
 // Each page sets the functions that read the values. `all` lists the signals, each with its message, name, unit and
 // `key`. `at` returns the value of a signal at the cursor. `column` returns the values after each step, which are NaN
@@ -9,7 +9,7 @@ const signals = { all: () => [], changing: () => [], at: () => undefined, column
 const signalKey = (message, name) => `${message}.${name}`;
 const signalWords = (value, unit) => value === undefined ? "" : `${typeof value === "number" ? +value.toFixed(6) : value} ${unit}`.trim();
 
-// A lane for a signal with named values. Each value has a band for as long as it lasts.
+// A lane for a signal with named values. A band shows how long each value lasts.
 class BandLane {
   constructor(name, numbers, texts, more) { Object.assign(this, { name, numbers, texts, height: 34 }, more); }
   draw(plot, top) {
@@ -67,7 +67,7 @@ function findSignals() {
   const words = at("of-signal").value.trim().toLowerCase().split(/\s+/), all = signals.all();
   return [all.filter(({ key }) => words.every(word => key.toLowerCase().includes(word))), all.length];
 }
-// A button that shows or hides the lane of a signal.
+// Returns a button that shows or hides the lane of a signal.
 function laneButton(one) {
   const button = element("button", "lane", { type: "button", title: `${one.name} as a lane, or no longer` });
   button.setAttribute("aria-pressed", isShown(one));

@@ -1,4 +1,4 @@
-// The attempts of a node: a bar for each attempt if there is room, otherwise the share of each kind.
+// The attempts of a node: one bar for each attempt if there is room, otherwise the share of each kind of attempt.
 
 function strip(plot, i, top, fills) {
   const first = plot.edges[0], last = plot.edges[Math.floor(plot.width)], wide = 3;
@@ -21,8 +21,8 @@ function strip(plot, i, top, fills) {
     stack(plot, i, sum, top, x, wider, fills, time.isInstant ? sums.most : count);
   }
 }
-// Returns sums for each group of three pixels that has steps, used by all lanes. `most` is the largest number of steps
-// in a group.
+// Returns the sums for each group of three pixels that contains steps. All lanes use these sums. `most` is the largest
+// number of steps in a group.
 function bucketsOf(plot, wide) {
   if (plot.buckets) return plot.buckets;
   const all = [];
@@ -47,7 +47,7 @@ function stack(plot, i, sums, top, x, wide, fills, whole) {
   if (won(sums, i, RESTART)) block(plot.pen, theme.restart, x, top, wide, 4);
   if (won(sums, i, DOWN)) block(plot.pen, theme.down, x, top, wide, 4);
 }
-// Returns the width that is free for words after an instant.
+// Returns the width that is free for words to the right of an instant.
 function labelRoom(plot, step, x) {
   if (!time.isInstant) return 0;
   const next = step + 1 < axis.count ? placeOf(plot, axis.start[step + 1]) : plot.width;
@@ -72,7 +72,8 @@ function bar(plot, i, step, top, left, wide, fills, room = 0) {
   }
 }
 
-// The ruler. By attempts it shows attempts with their timestamps, by time it shows times with the attempts.
+// The ruler. By attempts, it shows attempt numbers with their timestamps. By time, it shows times with the attempt
+// numbers.
 
 function ticksOf(plot) {
   if (!axis.count) return [];
@@ -94,7 +95,7 @@ function secondTicks(most) {
   }));
 }
 
-// The overview of the whole run: the share of failed attempts, and the times when a node was bus off or down.
+// The overview of the whole run: the share of failed attempts, and when a node was bus off or down.
 
 function drawOverview() {
   const canvas = at("overview"), width = canvas.parentElement.clientWidth, key = [width, byTime.isOn].join();
@@ -122,13 +123,13 @@ function makeLanes() {
   if (worst && worst.dropped) lanes.push(socketLane(worst));
   happened("lanes made");
 }
-// Returns the number of frames of a node that still wait after each step.
+// Returns how many frames of a node are still waiting after each step.
 function leftOf(i) {
   return new Numbers(queues[i].all.map((waiting, step) => (steps.off[step] | steps.down[step]) >> i & 1 ? 0
     : waiting - (steps.kind[step] === 0 && steps.iface[step] === i)));
 }
-// Returns a lane with the number of items in a socket's receive queue after each step, and marks at steps with dropped
-// items.
+// Returns a lane that shows how many items a socket's receive queue contains after each step, with marks at steps that
+// dropped items.
 function socketLane(socket) {
   const count = steps.kind.length, fill = new Int32Array(count + 1), marks = new Uint8Array(count);
   for (let item = 0; item < items.step.length; item++) {

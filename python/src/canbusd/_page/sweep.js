@@ -18,7 +18,7 @@ function outcomeOf(place) {
     return place && place.result ? place.result.outcome : "none";
 }
 
-// A text with a button that copies it.
+// Returns a text with a button that copies it.
 function copied(label, text) {
     const line = made("p", `${label} `);
     const button = made("button", "copy", { type: "button" });

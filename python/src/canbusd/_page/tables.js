@@ -3,8 +3,8 @@
 const attemptCell = step => isAttempt(step) ? grouped(attemptOf[step]) : KINDS[steps.kind[step]];
 function makeLists() {
   const moment = ["moment", `${Math.max(8, axis.count ? momentOf(axis.count - 1).length : 0)}ch`, "n"];
-  // Timestamps of a bench start at 0 with the run. If timestamps are from the clock, long lists show the time since the
-  // start instead.
+  // Timestamps of a bench count from 0 at the start of the run. If timestamps come from the system clock, long lists
+  // show the time since the start instead.
   const isClock = hasClock(), since = isClock ? [["since the start", "15ch", "n h"]] : [], last = ["since last", "minmax(0, 11ch)", "n x"];
   const timeColumns = [isClock ? ["since start", "13ch", "n"] : moment, last];
   const timeCells = (step, before) => [isClock ? sinceStart(step) : momentOf(step), sinceStep(step, before)];
@@ -72,7 +72,7 @@ function chooseSocket(socket) {
   redraw();
 }
 
-// Filters. A list is filtered again when it is shown, and when a filter or the visible part has changed.
+// Filters. A list is filtered again when it is shown, and whenever a filter or the visible part has changed.
 
 function finders() {
   const node = at("of-node").value, text = at("of-frame").value.trim().toUpperCase().replace(/^0X/, "");

@@ -1,21 +1,21 @@
-// The live page. On the same time line as the page of a run, it shows the ticks and frames that `canbusd watch` sends.
+// The live page. It shows the ticks and frames that `canbusd watch` sends, on the same time line as the page of a run.
 
 const { names, source, isDecoded, isTimed, messages = [] } = JSON.parse(at("run").textContent);
 const MOST = 4000, MOST_TICKS = 2400, FOLLOWED = 60;
-// The kinds of events, with the worst first.
+// The kinds of events, most severe first.
 const EVENTS = ["bus off", "error passive", "error warning", "error active", "restarted", "no acknowledgement",
   "bus error"];
 const QUEUE = 5, SENT_DONE = 4;
 let ticks = [], frames = [], events = [], offs = [], busiest = 1, total = 0, isLatest = true, isPaused = false;
 let chosenAt = null, chosen = null, byKey = new Map(), byIdentifier = new Map(), chips, showTab, tab;
 const held = [], lists = {};
-// For each node, the first node that is known to be on the same bus. `busyInAll` is the time that all frames took on
-// the wire.
+// For each node, the first node that is known to be on the same bus. `busyInAll` is the total time that the frames took
+// on the wire.
 let busOf = names.map((_, i) => i), busyInAll = 0, nodeLanes = [], loadLanes = new Map();
-// The sets of nodes that got the same frame.
+// The sets of nodes that received the same frame.
 const joined = new Set();
 
-// Handling ticks and frames that arrive.
+// Handles ticks and frames that arrive.
 
 function take(news) {
   if (news.start) {
@@ -26,7 +26,7 @@ function take(news) {
   }
   for (const tick of news.ticks) takeTick(tick);
   for (const frame of news.frames) takeFrame(...frame);
-  // Ticks are kept longer while the reader looks at the past.
+  // Ticks are kept longer while the user looks at the past.
   const more = isLatest ? 1 : 10;
   if (ticks.length > MOST_TICKS * more) ticks = ticks.slice(-MOST_TICKS);
   if (frames.length > MOST * more) {
@@ -35,7 +35,7 @@ function take(news) {
   }
   if (events.length > MOST * more) events = fewer(events);
 }
-// Keeps the last events of each kind, so that no kind displaces another.
+// Keeps the last events of each kind, so that one kind does not displace another.
 function fewer(all) {
   const numbers = new Map();
   const kept = all.slice().reverse().filter(({ kind }) => {
@@ -44,17 +44,17 @@ function fewer(all) {
   });
   return kept.reverse();
 }
-// Counts the attempts since the previous tick: successful ones, and failed ones that were reported.
+// Counts the attempts since the previous tick: the successful ones, and the failed ones that were reported.
 function takeTick(tick) {
   const before = ticks.length ? ticks[ticks.length - 1] : tick;
   tick.wins = names.map((_, i) => [Math.max(0, tick.ifaces[i][SENT_DONE] - before.ifaces[i][SENT_DONE]), ...tick.faults[i]]);
-  // The rates are per second, because a late tick has more attempts.
+  // The rates are per second, because a tick that is late covers more attempts.
   tick.rates = tick.wins.map(kinds => kinds.map(number => tick.span ? number / tick.span : 0));
   ticks.push(tick);
 }
 // An error message frame has bit 29 set in its first digit.
 const isError = text => /^[23].{7}#/.test(text);
-// Adds a frame. If another interface receives the same frame later, the frame stays in the same row.
+// Adds a frame. If another interface later receives the same frame, the frame stays in the same row.
 function takeFrame(moment, text, seen, says, sender, busy, decoded) {
   const key = `${moment} ${text}`, known = isError(text) ? undefined : byKey.get(key);
   if (known && !(known.seen & seen)) {
@@ -82,7 +82,7 @@ function takeFrame(moment, text, seen, says, sender, busy, decoded) {
   const from = sender < 0 ? one.sender : sender;
   byIdentifier.set(identifier, { identifier, periods: one.periods, moment, text, sender: from, busy: one.busy + busy });
 }
-// The time line. Each tick is a step whose place is its time.
+// The time line. Each tick is a step, and the time of the tick is its position.
 
 function measure() {
   const sum = numbers => numbers.reduce((all, one) => all + one, 0), first = ticks.length ? ticks[0].time : 0;
@@ -91,7 +91,7 @@ function measure() {
   for (let k = 1; k < ticks.length; k++) start[k] = ticks[k - 1].time - first;
   start[ticks.length] = ticks.length ? ticks[ticks.length - 1].time - first : 1;
   axis = new Axis(start, Math.min(1, Math.max(start[ticks.length], 0.1)));
-  // The visible part stays the same, even after older ticks are removed.
+  // The visible part stays the same, even if older ticks are removed.
   const moved = first - (measure.first ?? first);
   measure.first = first;
   if (isLatest) {
@@ -127,10 +127,10 @@ function strip(plot, i, top, fills) {
       block(plot.pen, fills[KINDS[kind]], x, y -= share, Math.max(to - x - (to - x > 5 ? 1 : 0), 1), share);
     });
   }
-  // Writes the rate that corresponds to the full height of a bar.
+  // Shows the rate that a bar of full height stands for.
   if (!plot.isNarrow) write(plot.pen, `${grouped(Math.floor(busiest))}/s`, plot.width + 6, top + 8, theme.soft);
 }
-// A lane with a mark for each bus off, even if it was over before the next tick read the counts.
+// A lane that marks every bus off, even if it had ended before the next tick read the counts.
 class LiveLane extends NodeLane {
   draw(plot, top, fills) {
     super.draw(plot, top, fills);
@@ -222,7 +222,8 @@ function found() {
     .filter(([kind, number]) => number || chips.made.has(kind))));
   return seen.filter(one => chips.has(one.kind));
 }
-// Shows the lists. A list stays at its end while the latest rows are wanted, otherwise at the row that was at its top.
+// Shows the lists. A list stays at its end while the latest rows are followed. Otherwise the row at the top stays
+// there.
 function showLists() {
   const list = lists[tab], isLog = tab === "tab-frames" || tab === "tab-events", top = list.list[Math.round(list.box.scrollTop / list.step)];
   const all = found(), of = { "tab-frames": frames, "tab-events": events, "tab-identifiers": [...byIdentifier], "tab-signals": signals.all() }[tab].length;
@@ -272,8 +273,8 @@ function sayNow() {
     + (isPaused ? ` Paused at ${clock(last.time)}.` : "");
   sayOffs(last);
 }
-// Shows the nodes that are bus off or down, and the last times when a node went bus off. Other events never displace
-// them.
+// Shows the nodes that are bus off or down, and the last times at which a node went bus off. Other events never
+// displace these.
 function sayOffs(last) {
   const [off, down] = ["off", "down"].map(state => names.filter((_, i) => last.ifaces[i][0] === state));
   const shown = offs.slice(-3).reverse();
@@ -287,7 +288,7 @@ function sayOffs(last) {
     shown.length ? "Went bus off: " : "", ...buttons, more);
 }
 
-// Keys, clicks and drags of the reader.
+// Handles the user's keys, clicks and drags.
 
 function show() {
   measure();
@@ -303,7 +304,7 @@ function show() {
   at("latest").setAttribute("aria-pressed", isLatest);
   at("pause").setAttribute("aria-pressed", isPaused);
 }
-// Unfolds the lanes of nodes whose counts or queues begin to change.
+// Unfolds the lanes of nodes whose counts or queues start to change.
 function buildGutterOnce() {
   const changed = lanes.filter(lane => lane.isQuiet && (lane.tec.most || lane.rec.most || lane.queue.most > 1));
   for (const lane of changed) lane.isQuiet = lane.isFolded = false;
@@ -316,7 +317,7 @@ function chooseAt(seconds) {
   if (place < view.from || place > view.to) look(place - span / 2, place + span / 2);
   redraw();
 }
-// A click on the time line chooses a tick, and scrolls the lists to its time.
+// A click on the time line chooses a tick, and scrolls the lists to the time of the tick.
 function chooseTick(first, last) {
   chosen = null;
   chooseAt(ticks[last - 1].time);

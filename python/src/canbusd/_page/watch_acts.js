@@ -1,5 +1,5 @@
 // The controls of a page with actions: they send frames, add fault rules, and take nodes down and up. `canbusd watch`
-// carries out each action, and returns the line of Python that does the same, or the reason why the action was refused.
+// performs each action. It returns a line of Python that does the same, or the reason why the action was refused.
 
 const cycles = new Map(), actNode = () => at("act-name").value;
 let page = "";
@@ -20,7 +20,7 @@ function copyButton(text) {
     () => { button.textContent = "not copied"; });
   return button;
 }
-// Returns the frame in the input fields: its text, or a message and the signals that have a value.
+// Returns the frame in the input fields: the frame as a string, or a message with the signals that have a value.
 function askedFrame() {
   const message = at("act-message").value;
   if (!message) return { frame: at("act-id").value.trim() + at("act-kind").value + at("act-data").value.replace(/\s/g, "") };
@@ -51,7 +51,8 @@ const READY = [["one of these", () => at("act-text").value],
   ["it sees a CRC error in the next frame", node => `next 1 local crc ${node}`],
   ["it goes bus off", node => `next 32 from ${node} global bit`],
   ["none of its frames comes through", node => `always from ${node} global bit`]];
-// Shows the cyclic frames that `canbusd watch` lists. A frame keeps its row and its button until it leaves the list.
+// Shows the cyclic frames that `canbusd watch` reports. A frame keeps its row and its button until it is no longer
+// reported.
 function showCycles(all) {
   for (const [number, row] of cycles) {
     if (all.some(([one]) => one === number)) continue;

@@ -1,17 +1,17 @@
-// The buses, the nodes on each of them, and their loads.
+// The buses, the nodes on each bus, and the bus loads.
 
-// Nodes that got the same frame are on the same bus.
+// Nodes that received the same frame are on the same bus.
 function joinBuses(seen) {
   if (joined.has(seen)) return;
   joined.add(seen);
   const got = new Set(busOf.filter((_, i) => seen >> i & 1)), first = Math.min(...got);
   busOf = busOf.map(bus => got.has(bus) ? first : bus);
 }
-// The buses that were busy, each given by its first node, and the words for the load of a bus.
+// The buses that were busy, each given by its first node, and a description of a bus's load.
 const busyBuses = some => [...new Set(busOf)].filter(bus => some.some(tick => tick.loads[bus]));
 const percent = permille => `${(permille / 10).toFixed(1)} %`;
 const loadWords = (tick, bus) => `bus load ${percent(tick.loads[bus])}${new Set(busOf).size > 1 ? ` (${names[bus]})` : ""}`;
-// Makes a lane for each bus that was busy, above the lanes of the nodes.
+// Creates a lane for each bus that was busy, above the lanes of the nodes.
 function measureLoads() {
   const buses = busyBuses(ticks), isOne = new Set(busOf).size === 1;
   const none = new Numbers(new Uint16Array(0)), laneOf = bus => loadLanes.get(bus) || new CurveLane("", none, null, { scale: "100 %" });
@@ -30,7 +30,7 @@ function measureLoads() {
   [lanes, measure.said] = [lanesNow, said];
   buildGutter();
 }
-// A table cell with a load and a small bar.
+// Returns a table cell with a bus load and a small bar.
 function loadCell(permille) {
   const bar = element("meter", [], { max: 1000, value: permille, title: "of the last whole second" });
   return element("td", [bar, ` ${percent(permille)}`], { className: "number" });

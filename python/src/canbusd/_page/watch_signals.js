@@ -1,4 +1,4 @@
-// The signals of the frames that arrive, each with its timestamps and values, and the lanes of signals.
+// The signals in the frames that arrive, each with its timestamps and values, and the lanes of the signals.
 
 const MOST_VALUES = 4000, bySignal = new Map();
 let signalLanes = new Map();
@@ -12,7 +12,7 @@ function takeSignals(moment, message, values) {
     if (one.moments.length > 2 * MOST_VALUES) [one.moments, one.values] = [one.moments.slice(-MOST_VALUES), one.values.slice(-MOST_VALUES)];
   }
 }
-// The functions that signals.js needs, for the signals that are known so far.
+// The functions that signals.js requires, for the signals that are known so far.
 signals.all = () => [...bySignal.values()].sort((one, other) => one.key < other.key ? -1 : 1);
 signals.at = ({ key }) => {
   const { moments, values } = bySignal.get(key) || { moments: [], values: [] };
@@ -28,7 +28,7 @@ signals.column = ({ key }) => {
   }
   return { of, texts };
 };
-// Lanes are kept, together with their names at the left. Only their contents are replaced.
+// The lanes and their names at the left are kept. Only the contents of the lanes are replaced.
 function measureSignals() {
   signalLanes = new Map(signals.shown.map(one => {
     const made = signalLane(one), old = signalLanes.get(one.key);

@@ -1,10 +1,10 @@
-// Time on the wire: bus load, and how long frames took and waited. Only pages of runs whose bus has bit rates include
-// this script. It adds to what the other scripts do.
+// Time on the wire: bus load, and how long frames took and waited. This script is only in pages of runs whose bus has
+// bit rates, and extends the other scripts.
 
 // Times are in nanoseconds since the start of the first attempt.
 const wire = {};
 
-// Reads the columns, and sums up the time during which the wire was busy.
+// Reads the columns, and computes running totals of the time during which the wire was busy.
 
 on("taken", column => {
   for (const name of ["begin", "nominal", "fast", "frame", "busy", "since"]) wire[name] = column(run.wire[name]);
@@ -23,7 +23,7 @@ on("taken", column => {
   view.to = axis.length;
   placeIdentifiers();
 });
-// Finds the number of the identifier of each text.
+// Finds the index of the identifier of each frame in `run.texts`.
 function placeIdentifiers() {
   const numbers = new Map();
   wire.identifierOf = Uint32Array.from(run.texts, text => {
@@ -33,15 +33,15 @@ function placeIdentifiers() {
   });
   wire.identifiers = [...numbers.keys()];
 }
-// Returns how long the wire was busy up to a time. If an attempt overlaps the next one, all its time counts before the
-// next one begins.
+// Returns how long the wire was busy up to a time. If an attempt overlaps the next one, its whole time counts before
+// the next one begins.
 function busyUntil(nanos) {
   if (!axes[1].count) return 0;
   const step = axes[1].stepAt(nanos / 1e9), begin = wire.begin[step];
   const room = Math.min(wire.busy[step], (wire.begin[step + 1] ?? Infinity) - begin);
   return wire.sums[step] + wire.busy[step] * (room ? Math.min(Math.max((nanos - begin) / room, 0), 1) : 0);
 }
-// Returns the time at a place of the current axis.
+// Returns the time at a position on the current axis.
 function nanosAt(place) {
   if (byTime.isOn || !axis.count) return place * 1e9;
   const step = axis.stepAt(place), from = axis.start[step], next = wire.begin[step + 1] ?? run.wire.end;
@@ -52,7 +52,7 @@ const loadIn = (from, to) => to > from ? (busyUntil(to) - busyUntil(from)) / (to
 const loadOfAll = () => run.wire.end ? loadIn(0, run.wire.end) : 0;
 const loadSeen = () => loadIn(nanosAt(view.from), nanosAt(view.to));
 const fixed = (number, digits) => number.toLocaleString("en", { minimumFractionDigits: digits, maximumFractionDigits: digits });
-// If attempts took no time, the load may be any number.
+// If attempts took no time, the load may be arbitrarily high.
 const percent = share => Number.isNaN(share) ? "none" : share > 9.99 ? "> 999 %" : `${fixed(100 * share, 1)} %`;
 function duration(nanos) {
   const [unit, by] = nanos < 1e6 ? ["\u00b5s", 1e3] : nanos < 1e9 ? ["ms", 1e6] : ["s", 1e9];
@@ -76,7 +76,7 @@ class LoadLane {
       if (!Number.isNaN(load)) last = load;
       const y = foot - Math.min(last, 1) * high;
       block(pen, theme.queue, x, y, wide, foot - y);
-      // The load exceeds what the wire can carry.
+      // Here the load exceeds what the wire can carry.
       if (last > 1.001) block(pen, theme.destroyed, x, top, wide, 6);
       if (x) line.lineTo(x, y); else line.moveTo(x, y);
       line.lineTo(x + wide, y);
@@ -142,13 +142,14 @@ on("fields", (pairs, step) => {
     [`${wire.identifiers[identifier]} in view`, shareWords(of.busy[identifier], of)],
   );
 });
-// Whether the frame was sent completely. In other attempts it was destroyed before its end.
+// Whether the frame was sent completely. In other attempts it was destroyed before its end, or was not acknowledged.
 const isWhole = step => ["done", "lastbit"].includes(KINDS[steps.kind[step]]);
 function bitWords(step) {
   const nominal = times(wire.nominal[step], "bit"), fast = wire.fast[step];
   return `${nominal}${fast ? `, and ${grouped(fast)} at the data bit rate` : ""}${isWhole(step) ? "" : ", not all of which were sent"}`;
 }
-// Returns the response time as far as the record has it, because the record has no timestamp for a send.
+// Describes the response time as far as it is known. It is a lower bound, because the record has no timestamp for a
+// send.
 function delayWords(step) {
   const first = step - wire.since[step], nanos = wire.begin[step] + wire.frame[step] - wire.begin[first];
   if (!isWhole(step)) {
@@ -161,7 +162,7 @@ function delayWords(step) {
 }
 const shareWords = (busy, { all, nanos }) => `load ${percent(busy / nanos)}, ${percent(all ? busy / all : 0)} of the busy time`;
 
-// The load of each identifier, over the attempts that begin in the visible part.
+// The load caused by each identifier, over the attempts that begin in the visible part.
 
 function sumsSeen() {
   const first = axis.from(view.from), last = axis.from(view.to), key = [first, last, view.from, view.to].join();

@@ -1,4 +1,4 @@
-"""The time on the wire for the page of a run: more columns for its steps, if the bus has bit rates."""
+"""The time on the wire for the page of a run: additional columns for its rows, if the bus has bit rates."""
 
 import itertools
 import operator
@@ -21,7 +21,7 @@ Column = list[Any]
 def wire_of(
     run: Replay, timeline: "Timeline", rates: Rates, column: Callable[[str, Iterable[float]], Column]
 ) -> dict[str, Any]:
-    """Returns the bit rates, and columns with a number for each row of the time line. `column` makes the columns."""
+    """Returns the bit rates, and columns with a number for each row of the time line. `column` creates the columns."""
     run = timed(run, rates)
     slots, steps = slots_of(run), run.steps
     over = max((slot.over for slot in slots), default=0)
@@ -30,11 +30,12 @@ def wire_of(
     return {
         "bitrate": rates.bitrate,
         "dbitrate": rates.dbitrate,
-        # The time in nanoseconds since the start of the previous row. These numbers are shorter than times since the
+        # The time in nanoseconds since the start of the previous row. These numbers are smaller than times since the
         # first row.
         "begin": [*column("d", map(operator.sub, begins, itertools.chain([start], begins))), "rising"],
         "end": end - start,
-        # The number of bits of the frame at each bit rate, and how long the frame and the attempt take, in nanoseconds.
+        # How many bits of the frame are sent at each bit rate, and how long the frame and the attempt take, in
+        # nanoseconds.
         "nominal": column("H", timeline.rows(steps.nominal_bits)),
         "fast": column("H", timeline.rows(steps.fast_bits)),
         "frame": column("I", timeline.rows(steps.frame_nanos)),
@@ -44,7 +45,7 @@ def wire_of(
 
 
 def begins_of(run: Replay, timeline: "Timeline", slots: Sequence[Slot], over: int) -> list[int]:
-    """Returns when each row begins. These times never decrease, and idle attempts begin together with the step after
+    """Returns when each row begins. These times never decrease. Idle attempts begin at the same time as the step after
     them.
 
     Idle attempts after the last step begin when all attempts have ended.
@@ -56,7 +57,7 @@ def begins_of(run: Replay, timeline: "Timeline", slots: Sequence[Slot], over: in
 
 
 def since_of(run: Replay, places: Sequence[int]) -> "array[int]":
-    """Returns, for each attempt, how many rows earlier its frame first took part in arbitration."""
+    """Returns, for each attempt, how many rows ago its frame first took part in arbitration."""
     steps, since = run.steps, array("I")
     firsts: dict[int, int] = {}
     for step, (place, kind, iface, off) in enumerate(zip(places, steps.kinds, steps.ifaces, steps.off)):

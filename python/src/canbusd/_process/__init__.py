@@ -1,2 +1,2 @@
-"""Processes: the program `canbusd` and its options, its servers and benches, and the communication with them over
+"""Processes: the program `canbusd` and its options, its servers and benches, and the communication with these over
 pipes."""

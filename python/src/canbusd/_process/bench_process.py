@@ -1,4 +1,4 @@
-"""A bench in its own process. Pipes carry lines to it and lines from it."""
+"""A bench in its own process. Lines are sent to it and read from it through pipes."""
 
 import os
 import select
@@ -15,8 +15,8 @@ TIMEOUT = 30.0
 
 
 def fault_of(words: Sequence[str], given: bytes) -> str:
-    """Runs a bench with these arguments and this input, and returns its error message. Returns the empty text if the
-    bench succeeds or there is no program."""
+    """Runs a bench with these arguments and this input, and returns its error message. Returns the empty string if the
+    bench succeeds or if the program does not exist."""
     try:
         program = find_program()
     except ProgramNotFound:
@@ -63,7 +63,7 @@ class BenchProcess(HasProgram):
         self._finish()
 
     def forget(self) -> None:
-        """Closes the input of the bench in this process."""
+        """Closes this process's end of the bench's input."""
         self._close_input()
 
     def left(self, ending: str) -> Optional[bytes]:
@@ -71,7 +71,7 @@ class BenchProcess(HasProgram):
         return None
 
     def _more(self) -> bool:
-        """Reads some output of the bench. Returns false at the end of the output."""
+        """Reads more output of the bench. Returns false at the end of the output."""
         assert self._child.stdout is not None
         output = self._child.stdout.fileno()
         if not select.select([output], [], [], TIMEOUT)[0]:
@@ -82,8 +82,7 @@ class BenchProcess(HasProgram):
         return bool(piece)
 
     def _finish(self, fault: str = "") -> None:
-        """Waits for the end of the program. If the program failed, raises BenchError with `fault` and the program's
-        messages."""
+        """Waits until the program ends. If it failed, raises BenchError with `fault` and the program's messages."""
         self._close_input()
         status = self._child.wait(TIMEOUT)
         assert self._child.stdout is not None

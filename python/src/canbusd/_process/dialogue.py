@@ -1,4 +1,4 @@
-"""A dialogue with a bench: lines that are sent to it, and lines that it writes."""
+"""A dialogue with a bench: lines that are sent to the bench, and lines that it writes."""
 
 import os
 import re
@@ -16,7 +16,7 @@ AT = re.compile(r"[0-9]{1,10}\.[0-9]{6}")
 
 
 def moment_text(at: Union[str, float], what: str = "at") -> str:
-    """Returns a time in the form that the bench reads: seconds with six decimal places."""
+    """Formats a time as the bench reads it: seconds with six decimal places."""
     try:
         text = at if isinstance(at, str) else f"{at:.6f}"
     except (TypeError, ValueError):
@@ -28,7 +28,10 @@ def moment_text(at: Union[str, float], what: str = "at") -> str:
 
 class Lines(Protocol):
     """The bench of a dialogue, which is another process or a part of this process. It receives lines and answers with
-    lines. If it ends with an error, its methods raise BenchError."""
+    lines.
+
+    If it ends with an error, its methods raise BenchError.
+    """
 
     @property
     def is_over(self) -> bool:
@@ -36,7 +39,7 @@ class Lines(Protocol):
 
     @property
     def said(self) -> str:
-        """The messages of the bench about the error with which it ended."""
+        """The bench's messages about the error with which it ended."""
 
     def write(self, data: bytes) -> None:
         """Sends lines to the bench."""
@@ -51,26 +54,26 @@ class Lines(Protocol):
         """Closes the connection to the bench in a forked process."""
 
     def left(self, ending: str) -> Optional[bytes]:
-        """Returns the record or the log of a complete run. `ending` is the ending of its file name. Returns None if the
+        """Returns the record or the log of a complete run. `ending` is the file name extension. Returns None if the
         bench wrote the file itself."""
 
 
 class Dialogue(Run):
-    """A bench that gets lines in one call at a time. Each call reads what the bench writes in reply."""
+    """A bench that handles one call at a time. Each call sends lines and reads what the bench writes in reply."""
 
     _lines: Lines
 
     def __init__(self, out: Union[str, "os.PathLike[str]", None]) -> None:
         super().__init__(out)
         self._moment = "0.000000"
-        # This lock allows one call at a time. If a call is interrupted, its answer is still to come, and the next call
-        # would mistake it for its own answer. `_in_step` is false then.
+        # This lock allows one call at a time. If a call is interrupted, its answer will still arrive, and the next call
+        # would mistake it for its own answer. `_in_step` is false after such an interruption.
         self._turn = threading.RLock()
         self._in_step = True
         self._written = 0
 
     def _begin(self, lines: Lines) -> None:
-        """Begins a dialogue with this bench."""
+        """Begins the dialogue with this bench."""
         self._lines = lines
         RUNNING.add(self)
 
@@ -83,7 +86,7 @@ class Dialogue(Run):
         self._lines.forget()
 
     def stop(self) -> None:
-        """Ends the run, after which its record and its log are written. The sessions can't be used any more."""
+        """Ends the run. Its record and its log are then written, and the sessions can't be used any more."""
         self._check_process()
         with self._turn:
             if self._lines.is_over:
@@ -100,8 +103,8 @@ class Dialogue(Run):
         """Sends lines whose last one ends with `< echo >`, and returns what the session writes before that echo. Raises
         Refused if a line is refused.
 
-        The answer to a line of messages is one line. So an echo that a caller requested is not mistaken for the last
-        one.
+        The answer to a line of messages is a single line, so an echo that a caller requested is not mistaken for the
+        last echo.
         """
         with self._turn:
             self._write(lines, at)
@@ -122,7 +125,7 @@ class Dialogue(Run):
         return written
 
     def _write(self, lines: str, at: Union[str, float, None] = None) -> None:
-        """Writes lines. If `at` is given, sets the time of the bench first."""
+        """Writes lines. If `at` is given, sets the bench's time first."""
         if os.getpid() != self._process:
             self._check_process()
         if self._lines.is_over:

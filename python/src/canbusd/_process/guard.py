@@ -1,13 +1,13 @@
-"""Guards of programs. A guard ends a program after this process has ended in any way."""
+"""Guards for programs. A guard ends a program after this process has ended, in whatever way."""
 
 import contextlib
 import os
 import subprocess
 import weakref
 
-# The first line of the guard's input is the process ID of the program. A second line says that the program has ended.
-# If the input ends without a second line, the guard sends SIGTERM to the program. After 5 seconds, or when the program
-# has ended, the guard sends SIGKILL to the remaining processes of the program's group.
+# The first line of the guard's input is the process ID of the program. A second line means that the program has ended.
+# If the input ends without a second line, the guard sends SIGTERM to the program. After 5 seconds, or earlier if the
+# program has ended, the guard sends SIGKILL to the remaining processes of the program's group.
 GUARD = """
 read -r program && [ -n "$program" ] || exit
 read -r _ && exit
@@ -21,8 +21,8 @@ kill -s KILL -- "-$program" "$program"
 
 
 class Guard:
-    """The guard of a program that leads a process group. It starts before the program, so that the program is never
-    without a guard."""
+    """The guard of a program that leads a process group. The guard starts before the program, so that the program is
+    never without a guard."""
 
     def __init__(self) -> None:
         null = subprocess.DEVNULL
@@ -39,16 +39,16 @@ class Guard:
         assert self._child.stdin is not None
         self._input = self._child.stdin
         GUARDS.add(self)
-        # When its input is closed, the guard ends the program.
+        # When the guard's input is closed, the guard ends the program.
         weakref.finalize(self, self._input.close)
 
     def watch(self, program: int) -> None:
-        """Tells the guard the process ID of its program."""
+        """Sends the guard the process ID of its program."""
         self._input.write(f"{program}\n".encode())
 
     def release(self) -> None:
-        """Ends the guard of a program that has ended or did not start. This must be done because another program may
-        soon get the same process ID."""
+        """Ends the guard of a program that has ended or did not start. Otherwise the guard might later kill another
+        program that got the same process ID."""
         # Another thread may have done this already.
         with contextlib.suppress(BrokenPipeError, ValueError):
             self._input.write(b"\n")

@@ -13,16 +13,16 @@ import sys
 from typing import Any
 
 MOST_BYTES = 4095
-# Options of linux/can/isotp.h, and flags of the first option: extended addresses, padding, a different address for
-# received frames, and a send that returns after its last frame.
+# Options of linux/can/isotp.h, and flags of the first option: extended addresses, padding, a different extended address
+# for received frames, and a send that returns only after its last frame.
 OPTIONS, FLOW_CONTROL, LINK_LAYER = 1, 2, 5
 EXTENDED, PADDING, OTHER_RX, WAIT_DONE = 0x2, 0x4, 0x200, 0x400
-# The size of Linux's structure for an FD frame, in bytes.
+# The size in bytes of Linux's structure for an FD frame.
 CANFD_MTU = 72
 
 
 def relay(own: socket.socket, end: socket.socket) -> None:
-    """Passes messages between a socket pair and a CAN_ISOTP socket, until the other side of the pair is closed."""
+    """Passes messages between a socket pair and a CAN_ISOTP socket until the other side of the pair is closed."""
     while True:
         ready = select.select([own, end], [], [])[0]
         if end in ready:
@@ -41,7 +41,7 @@ def relay(own: socket.socket, end: socket.socket) -> None:
 
 
 def error_of(end: socket.socket, data: bytes) -> int:
-    """Sends a message, and returns the errno, or 0 if the message was sent."""
+    """Sends a message. Returns the errno, or 0 if the message was sent."""
     try:
         end.send(data)
         return end.getsockopt(socket.SOL_SOCKET, socket.SO_ERROR)

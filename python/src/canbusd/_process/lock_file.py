@@ -1,4 +1,4 @@
-"""The file with which a server locks its folder. A server that is killed leaves the file there."""
+"""The file with which a server locks its folder. If a server is killed, the file stays in the folder."""
 
 import contextlib
 import fcntl
@@ -6,17 +6,17 @@ import os
 import time
 from pathlib import Path
 
-#: The name of the file in the folder of `--out`.
+#: The name of the file in the server's `--out` folder.
 NAME = ".canbusd.lock"
 #: How many seconds a killed server may take to close its files. Its launcher does not wait for this.
 CLOSING = 0.2
 
 
 def remove_left(folder: Path) -> None:
-    """Removes the lock file that a server left in this folder. By the server's rule, the file must be empty, and no
-    other server may hold the lock."""
+    """Removes the lock file that a killed server left in this folder. As in the server, the file is removed only if it
+    is empty and if no other server holds the lock."""
     path = folder / NAME
-    # A file that can't be removed stays and does no harm.
+    # If the file can't be removed, it stays and does no harm.
     with contextlib.suppress(OSError):
         lock = os.open(path, os.O_RDWR | os.O_NOFOLLOW)
         try:
@@ -28,7 +28,7 @@ def remove_left(folder: Path) -> None:
 
 
 def take(lock: int) -> None:
-    """Locks this file. Raises BlockingIOError if a server holds the lock."""
+    """Acquires the lock on this file. Raises BlockingIOError if a server holds the lock."""
     deadline = time.monotonic() + CLOSING
     while True:
         try:

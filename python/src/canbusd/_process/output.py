@@ -1,4 +1,4 @@
-"""The output of a program so far, in a file. The output may be too large to read all of it."""
+"""The output of a program so far, stored in a file. The output may be too large to read it completely."""
 
 import codecs
 import os
@@ -6,9 +6,9 @@ import time
 from pathlib import Path
 from typing import BinaryIO, Optional
 
-#: The maximum size of a returned text, and the size of a block when searching for a text, both in bytes.
+#: The maximum size in bytes of a returned string, and the size in bytes of the blocks that a search reads.
 MOST, BLOCK = 1 << 20, 1 << 17
-#: The maximum length of a line of output in a failure message.
+#: The maximum number of characters in a line of output in a failure message.
 LONGEST = 1000
 
 
@@ -22,8 +22,8 @@ class Output:
         return os.stat(self._path).st_size
 
     def text(self, end: Optional[int] = None) -> str:
-        """Returns the output, or the part before `end`. If this is more than MOST bytes, returns the last of them,
-        after a line with the number of bytes that were left out."""
+        """Returns the output, or the part before `end`. If this part is larger than MOST bytes, returns its last MOST
+        bytes after a line that says how many bytes were left out."""
         size = len(self) if end is None else end
         first = max(0, size - MOST)
         with open(self._path, "rb") as file:
@@ -32,8 +32,8 @@ class Output:
         return f".. {first:,} bytes before\n{text}" if first else text
 
     def last_lines(self, most: int) -> list[str]:
-        """Returns the last lines of the output, after a line that says how many lines there are. Returns an empty list
-        if there is no output."""
+        """Returns the last lines of the output, after a line that says how many lines the output has. Returns an empty
+        list if there is no output."""
         lines = self.text().splitlines()
         if not lines:
             return []
@@ -45,13 +45,15 @@ class Output:
 
 
 class Search:
-    """A search for a text in an output. It continues from the place that it reached when the program writes more."""
+    """A search for a string in the output of a program. After the program has written more, the search continues where
+    it stopped."""
 
     def __init__(self, path: Path, text: str) -> None:
         self._file: BinaryIO = open(path, "rb")
         self._text = text
         self._decoder = codecs.getincrementaldecoder("utf-8")("replace")
-        # The end of the output read so far, in which the text may begin. Each line may end with two characters.
+        # The end of the output read so far, which may contain the start of the string. A line break in the output may
+        # be two characters long.
         self._rest = ""
         #: The number of bytes read so far.
         self.place = 0
@@ -64,8 +66,8 @@ class Search:
         self._file.close()
 
     def goes_on(self, deadline: float) -> bool:
-        """Reads the available output until the text is found or the deadline passes, but at least MOST bytes. Returns
-        whether everything was read or the text was found."""
+        """Reads the available output until the string is found or the deadline passes, but at least MOST bytes. Returns
+        whether the string was found or all available output was read."""
         while not self.is_found:
             if self.place >= MOST and time.monotonic() >= deadline:
                 return False
@@ -80,5 +82,5 @@ class Search:
 
 
 def unix_lines(text: str) -> str:
-    """Returns a text with LF as line ends, like text files in Python."""
+    """Returns a string in which all line breaks are LF, as in Python's text files."""
     return text.replace("\r\n", "\n").replace("\r", "\n") if "\r" in text else text

@@ -1,4 +1,4 @@
-"""The program `canbusd`: finding it, running it, and its verdict on a record."""
+"""The program `canbusd`: finds it, runs it, and returns its verdict on a record."""
 
 import os
 import shutil
@@ -7,29 +7,29 @@ from collections.abc import Sequence
 from pathlib import Path
 from typing import NoReturn, Optional, Union
 
-#: If a variable was not set by the user but by an option of pytest's ini file, maps the variable to that option.
+#: Maps a variable to an option of pytest's ini file, if that option and not the user has set the variable.
 SET_BY: dict[str, str] = {}
 
 
 class ServerError(RuntimeError):
-    """The server could not be started, or it ended with an error. The text is canbusd's message."""
+    """The server could not be started, or it ended with an error. The exception's text is canbusd's message."""
 
 
 class BenchError(RuntimeError):
-    """The bench ended with an error. The text is canbusd's message."""
+    """The bench ended with an error. The exception's text is canbusd's message."""
 
 
 class ProgramNotFound(FileNotFoundError):
-    """The program canbusd was not found."""
+    """The program `canbusd` was not found."""
 
 
 def find_program(name: str = "canbusd") -> str:
-    """Returns the path of a program: the path in `$CANBUSD`, or the program in the package, in its clone, or on the
-    PATH.
+    """Returns the path of a program: the path in `$CANBUSD`, the program in the package, the program in the repository
+    that contains the package, or the program on the PATH.
 
-    A wheel contains the programs in its package. If the package is in a clone, the program is `./canbusd` in the clone.
-    The variable depends on the name: for canbusd-run it is `$CANBUSD_RUN`. Commands that pip made for this package are
-    ignored.
+    A wheel contains the programs in its package. If the package is in a clone of the repository, the program is
+    `./canbusd` in the clone. The name of the variable depends on `name`: for canbusd-run it is `$CANBUSD_RUN`. Commands
+    that pip created for this package are ignored.
     """
     variable = name.upper().replace("-", "_")
     given = os.environ.get(variable)
@@ -56,18 +56,19 @@ def find_program(name: str = "canbusd") -> str:
 
 
 def is_own_command(path: str) -> bool:
-    """Returns whether this is a command that pip made for the package. It would only look for the program again."""
+    """Returns whether this is a command that pip created for the package. Such a command would only search for the
+    program again."""
     try:
         with open(path, "rb") as file:
             return b"from canbusd." in file.read(1024)
     except OSError:
-        # The file may be executable but not readable, so it is a program.
+        # The file may be executable but not readable, so it counts as a program.
         return False
 
 
 def run_program(name: str, words: Sequence[str]) -> NoReturn:
-    """Replaces this process by the program with these arguments. If there is a launcher next to the program, it starts
-    the server and ends it at Ctrl-C."""
+    """Replaces this process with the program, called with these arguments. If there is a launcher next to the program,
+    the launcher starts the server and ends it at Ctrl-C."""
     program = find_program(name)
     launcher = os.path.join(os.path.dirname(program), "serve")
     has_launcher = name == "canbusd" and words[0] == "serve" and os.path.isfile(launcher)
@@ -76,9 +77,9 @@ def run_program(name: str, words: Sequence[str]) -> NoReturn:
 
 
 def audited(path: Union[str, "os.PathLike[str]"], cut: bool = False) -> str:
-    """Returns the verdict of `canbusd audit` on the record in this file: `ok 7 entries`, or the error and its place.
+    """Returns the verdict of `canbusd audit` on the record in this file: `ok 7 entries`, or the error and the line.
 
-    With `cut` the record may lack its last line. Then the verdict is `ok 7 entries, then cut off`.
+    With `cut` the record may lack its last line. The verdict is then `ok 7 entries, then cut off`.
     """
     words = [find_program(), "audit", *(["--cut"] if cut else []), "--", os.fspath(path)]
     done = subprocess.run(words, stdin=subprocess.DEVNULL, capture_output=True, text=True, check=False)

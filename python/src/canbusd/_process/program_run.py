@@ -1,5 +1,5 @@
-"""The common parts of Server and Bench: the options of the program, the run's folder, its end, and the program as a
-child process."""
+"""The parts that Server and Bench have in common: the options of the program, the run's folder, the end of the run, and
+the program as a child process."""
 
 import _thread
 import functools
@@ -26,21 +26,22 @@ from canbusd.faults import Script
 
 Self = TypeVar("Self", bound="Run")
 
-#: The folder in which runs make their folders. None stands for the system's folder for temporary files.
+#: The folder in which runs create their folders. None means the system's folder for temporary files.
 FOLDERS: "ContextVar[Optional[Path]]" = ContextVar("FOLDERS", default=None)
 
 Ack = Literal["always", "peers"]
 
 
 def option_words(ack: str, report: bool, **numbers: int) -> list[str]:
-    """Returns the command-line arguments for these options. If an option is wrong, raises ValueError with its name."""
+    """Returns the command-line arguments for these options. If an option is wrong, raises ValueError that names it."""
     if ack not in ("always", "peers"):
         raise ValueError(f"ack is 'always' or 'peers', not {ack!r}")
     return ["--ack", ack, *(["--report"] if truth("report", report) else []), *number_words(**numbers)]
 
 
 def number_words(**numbers: int) -> list[str]:
-    """Returns the command-line arguments for these options. If an option is wrong, raises ValueError with its name."""
+    """Returns the command-line arguments for these numeric options. If an option is wrong, raises ValueError that names
+    it."""
     words: list[str] = []
     for name, number in numbers.items():
         option, least, most, unit = NUMBERS[name]
@@ -64,8 +65,8 @@ def rates_by_bus(
 
 
 def rate_by_bus(argument: str, rate: Optional[BitRate], buses: Mapping[str, Sequence[str]]) -> dict[str, Optional[int]]:
-    """Maps the first interface of each bus to the bus's value of an argument. Raises ValueError with the reason if the
-    argument is wrong."""
+    """Maps the first interface of each bus to the value of an argument for this bus. Raises ValueError with the reason
+    if the argument is wrong."""
     if not isinstance(rate, Mapping):
         return dict.fromkeys(buses, rate)
     firsts = {name: first for first, names in buses.items() for name in names}
@@ -95,8 +96,8 @@ def rates_of(bitrate: Optional[int], fast: Optional[int]) -> Optional[Rates]:
 
 
 def check_names(names: Sequence[str]) -> Sequence[str]:
-    """Returns the names of a bus's interfaces unchanged. Raises ValueError if they are not joined by commas only, or if
-    a name is invalid."""
+    """Returns the names of a bus's interfaces unchanged. Raises ValueError if a name is invalid, or if names are
+    separated by anything but commas."""
     joined = ",".join(names)
     parted = [name for name in re.split(r"[\s,;]+", joined) if name]
     if re.search(r"[\s;]", joined) and parted:
@@ -117,8 +118,8 @@ def check_names(names: Sequence[str]) -> Sequence[str]:
 
 
 def bus_of(names: Union[str, Sequence[str]], faults: Optional[Script]) -> tuple[tuple[str, ...], Optional[Script]]:
-    """Returns the names of a bus and its faults. As on the command line, a file with faults may follow the names:
-    can0,can1@FILE."""
+    """Splits the description of a bus into its names and its faults. As on the command line, a file with faults may
+    follow the names: can0,can1@FILE."""
     if isinstance(names, str):
         names, given, script_path = names.partition("@")
         if given and faults is not None:
@@ -132,10 +133,10 @@ def bus_of(names: Union[str, Sequence[str]], faults: Optional[Script]) -> tuple[
 
 
 def remove(folder: Path, process: int) -> None:
-    """Removes the folder of a run. A forked process does not remove it.
+    """Removes the folder of a run, but not in a forked process.
 
-    Python prints exceptions of finalizers and ignores them. So if a Ctrl-C arrives here, another thread sends it again.
-    That thread runs after the finalizer has finished.
+    This function is a finalizer, and Python prints and ignores exceptions from finalizers. So if a Ctrl-C arrives here,
+    another thread raises it again after the finalizer has finished.
     """
     if os.getpid() == process:
         try:
@@ -151,13 +152,13 @@ def remove(folder: Path, process: int) -> None:
 
 class Run:
     """A run of one or several buses. Its logs and records are in `out`, or in a temporary folder that exists as long as
-    the run."""
+    this object."""
 
     def __init__(self, out: Union[str, "os.PathLike[str]", None]) -> None:
         if out is not None and not os.path.isdir(out):
             raise ValueError(f"out is a folder that exists, not {os.fspath(out)!r}")
         self._process = os.getpid()
-        #: The number of this server or bench in its test, which a sweep needs.
+        #: The index of this server or bench in its test, which a sweep needs.
         self._number = placement.next_run()
         self._given_out = None if out is None else Path(out)
         self._folders = FOLDERS.get()
@@ -175,7 +176,7 @@ class Run:
         return self._folder if self._given_out is None else self._given_out
 
     def stop(self) -> object:
-        """Ends the run, after which its logs and records are written."""
+        """Ends the run. Its logs and records are then written."""
         raise NotImplementedError
 
     def _forget(self) -> None:
@@ -183,7 +184,7 @@ class Run:
         raise NotImplementedError
 
     def _check_process(self) -> None:
-        """Raises RuntimeError in a forked process, because only the process that started the run may end it."""
+        """Raises RuntimeError in a forked process. Only the process that started the run may end it."""
         if os.getpid() != self._process:
             raise RuntimeError(f"this {type(self).__name__} belongs to process {self._process}, which was forked")
 
@@ -204,21 +205,21 @@ class Run:
 
 
 class HasProgram:
-    """A program as a child of this process. Its input and output are pipes."""
+    """A program that runs as a child process, with pipes for its input and output."""
 
     _child: "subprocess.Popen[bytes]"
     _errors: Path
 
     @property
     def said(self) -> str:
-        """The program's standard error so far, such as `note: bus can0: record full`."""
+        """What the program has written to standard error so far, such as `note: bus can0: record full`."""
         return self._errors.read_text(errors="replace").strip()
 
     def _start(self, errors: Path, *words: str) -> None:
-        """Starts the program with these arguments. Its standard error goes to a file."""
+        """Starts the program with these arguments. Its standard error is written to the file `errors`."""
         self._errors = errors
         with open(errors, "wb") as file:
-            # The program gets its own session, so that Ctrl-C reaches only this process. This process then ends the
+            # The program runs in its own session, so that Ctrl-C reaches only this process. This process then ends the
             # program properly.
             self._child = subprocess.Popen(
                 [find_program(), *words],
@@ -236,7 +237,7 @@ class HasProgram:
             self._child.stdin = None
 
     def _signal(self) -> None:
-        """Kills the program, and its launcher if it has one. Both are in one process group."""
+        """Kills the program, and its launcher if there is one. Both are in one process group."""
         try:
             os.killpg(self._child.pid, signal.SIGKILL)
         except ProcessLookupError:

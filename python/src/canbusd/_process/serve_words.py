@@ -17,8 +17,8 @@ def bus_words(
 ) -> dict[str, list[str]]:
     """Writes the fault scripts to this folder, and maps the first interface of each bus to the list of its interfaces.
 
-    The last element of each list is the program's argument for the bus, such as `can0,can1@FILE`. `run` is the number
-    of the server.
+    The last element of each list is the program's argument for the bus, such as `can0,can1@FILE`. `run` is the index of
+    the server.
     """
     by_bus: dict[str, list[str]] = {}
     known: set[str] = set()
@@ -65,8 +65,8 @@ def scripts_of(by_bus: Mapping[str, list[str]], faults: Union[Script, Mapping[st
 def record_options(
     record: str, limit: Optional[int], flush: Optional[int], sync: bool
 ) -> tuple[list[str], dict[str, int]]:
-    """Returns the arguments that say when the record is written, and the numeric options. Raises ValueError if options
-    contradict each other."""
+    """Returns the arguments that determine when the record is written, and the numeric options. Raises ValueError if
+    options contradict each other."""
     if record not in ("end", "live", "none"):
         raise ValueError(f"record is 'end', 'live' or 'none', not {record!r}")
     if record == "end":

@@ -1,1 +1,1 @@
-"""Rest buses: the messages that simulated nodes send and their due times, on a bench and on a server."""
+"""Rest buses: the messages that simulated nodes send, and when they are due, on a bench and on a server."""

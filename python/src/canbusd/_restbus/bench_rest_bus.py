@@ -35,7 +35,7 @@ class BenchRestBus(RestBus):
         """Sends the frames that are due before `until`, each at its due time, and returns the attempts made in this
         time.
 
-        On a bench with a bit rate these are the attempts that begin before `until`. On a bench without a bit rate all
+        On a bench with a bit rate, these are the attempts that begin before `until`. On a bench without a bit rate, all
         waiting frames are tried at each due time.
         """
         check_within(until, "until")
@@ -48,7 +48,7 @@ class BenchRestBus(RestBus):
                 goal = max(due, self._bench._now) if due is not None and is_due else end
                 attempts += self._go_to(goal)
                 if self._now < goal:
-                    # A node woke up, so its messages may be due earlier.
+                    # A node woke up, so a message may be due earlier than `goal`.
                     continue
                 if not is_due:
                     return attempts
@@ -56,11 +56,11 @@ class BenchRestBus(RestBus):
                 attempts += self._tried()
 
     def first_due(self) -> Optional[int]:
-        """Returns the time when the next frame is due. The bench needs this while a test waits and time passes."""
+        """Returns the time when the next frame is due. The bench calls this while a test waits and bus time passes."""
         return None if self._is_closed else self._schedule.first()
 
     def put_due(self, moment: int) -> None:
-        """Sends the frames that are due at this time. The bench calls this while a test waits and time passes."""
+        """Sends the frames that are due at this time. The bench calls this while a test waits and bus time passes."""
         with self.changing():
             self._now = moment
             self._put()
@@ -89,7 +89,7 @@ class BenchRestBus(RestBus):
             raise Refused(answer)
 
     def _answer(self, message: RestMessage, frame: Frame) -> str:
-        """Sends a frame, and returns the reason if it is refused, otherwise the empty text."""
+        """Sends a frame. Returns the reason if the frame is refused, otherwise the empty string."""
         try:
             self._sessions[message.interface].send(frame)
             return ""
@@ -97,7 +97,7 @@ class BenchRestBus(RestBus):
             return str(fault)
 
     def _go_to(self, moment: int) -> list[Attempt]:
-        """Advances to a time. On a bench with a bit rate this makes the attempts that begin before this time. Stops
+        """Advances to a time. On a bench with a bit rate, this makes the attempts that begin before this time. Stops
         earlier if a node wakes up."""
         attempts: list[Attempt] = []
         if self._bench._rates:
@@ -109,7 +109,7 @@ class BenchRestBus(RestBus):
         return attempts
 
     def _tried(self) -> list[Attempt]:
-        """Makes attempts at the current time until no frame waits, on a bench without a bit rate."""
+        """On a bench without a bit rate, makes attempts at the current time until no frame is waiting."""
         if self._bench._rates:
             return []
         first = self._bench.attempt(at=self._now / MICROS)

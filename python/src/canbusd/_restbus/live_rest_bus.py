@@ -19,14 +19,15 @@ from canbusd.signals import Database
 from canbusd.virtual import is_virtual
 
 LOG = logging.getLogger("can.canbusd")
-#: The time in seconds within which callbacks of on_send must return when the rest bus is closed.
+#: How many seconds callbacks of on_send may take to return after the rest bus was closed.
 END = 10.0
 
 
 class LiveRestBus(RestBus):
-    """A rest bus that sends its frames to a server. `opened` opens a python-can bus on an interface.
+    """A rest bus that sends its frames to a server.
 
-    `is_over` returns whether the test has ended the server. If it has, a lost connection is not an error.
+    `opened` opens a python-can bus on an interface. `is_over` returns whether the test has ended the server. If it has,
+    a lost connection is not an error.
     """
 
     def __init__(
@@ -55,7 +56,7 @@ class LiveRestBus(RestBus):
         self._thread = threading.Thread(target=self._work, name="canbusd rest bus", daemon=True)
 
     def start(self, name: Optional[str] = None) -> None:
-        """Starts a node or a message. Without a name, starts all nodes."""
+        """Starts a node or a message. If no name is given, starts all nodes."""
         with self._lock:
             super().start(name)
             if not self._thread.ident:
@@ -65,7 +66,7 @@ class LiveRestBus(RestBus):
                 self._thread.start()
 
     def close(self) -> None:
-        """Ends the thread and its sessions. If an exception ended the thread, raises it."""
+        """Ends the thread and the sessions. If an exception has ended the thread, raises this exception."""
         with self._news:
             self._is_closed = True
             self._news.notify()
@@ -108,7 +109,7 @@ class LiveRestBus(RestBus):
             self._fault = fault
 
     def _put(self, frames: list[tuple[RestMessage, Frame]]) -> None:
-        """Sends frames. All frames of an interface are sent in one write."""
+        """Sends these frames. All frames from an interface are sent in one write."""
         for name, bus in self._buses.items():
             its = [(message, frame) for message, frame in frames if message.interface == name]
             if its:
@@ -116,7 +117,8 @@ class LiveRestBus(RestBus):
                     self._note(message, answer)
 
     def _note(self, message: RestMessage, answer: str) -> None:
-        """Counts a frame. If several frames of a message in a row are refused, only the first one is logged."""
+        """Counts a frame as sent or refused. If several frames of a message in a row are refused, only the first
+        refusal is logged."""
         if answer and answer not in PASSING:
             raise refusal(answer)
         message.count(answer)

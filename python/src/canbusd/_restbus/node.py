@@ -1,4 +1,5 @@
-"""A node of a test that can leave the bus and return: its interface, its programs, and its messages in rest buses."""
+"""A node of a test that can leave the bus and return to it: its interface, its programs, and its messages in rest
+buses."""
 
 import contextlib
 import weakref
@@ -22,7 +23,7 @@ class Run(Protocol):
 
     @property
     def _sleepers(self) -> Sleepers:
-        """The nodes that sleep until a frame wakes them."""
+        """The nodes that sleep until a frame wakes them up."""
 
     def down(self, name: str) -> None:
         """Takes an interface off the bus."""
@@ -38,9 +39,9 @@ class Node(NamesWhatThereIs):
     """A node with its own interface. The method `node` of a server or a bench returns it: ``server.node("ecu",
     program)``.
 
-    A node is off the bus after `power_off` or `sleep`, and in an `unplugged` block. Then it sends, accepts and
-    acknowledges nothing. The messages that a rest bus sends from its interface stop. When the node returns, they start
-    again from the beginning.
+    A node is off the bus after `power_off` or `sleep`, and in an `unplugged` block. It then sends, accepts and
+    acknowledges nothing, and the messages that a rest bus sends from its interface stop. When the node returns, they
+    start again from the beginning.
     """
 
     _INSTEAD = {
@@ -52,23 +53,24 @@ class Node(NamesWhatThereIs):
     def __init__(self, run: Run, name: str, programs: "Sequence[Program]" = ()) -> None:
         #: The name of the node's interface.
         self.name = name
-        # The run owns its nodes, so this reference must not keep the run in memory.
+        # The run owns its nodes, so a node must not keep the run alive.
         self._run: Run = weakref.proxy(run)
         self._programs = tuple(programs)
-        # Whether a call such as `sleep` took the node off the bus, and the frames that wake it.
+        # Whether a call such as `sleep` took the node off the bus, and the frames that wake the node up.
         self._is_off = False
         self._wake_up: Optional[WakeUp] = None
         # The messages that rest buses were sending from this interface when the node left the bus.
         self._ceased: "list[tuple[RestBus, list[RestMessage]]]" = []
 
     def power_off(self) -> None:
-        """Cuts the power: the node's programs are killed, and the frames in its transmit queue are lost."""
+        """Cuts the node's power: its programs are killed, and the frames in its transmit queue are lost."""
         for program in self._programs:
             program._power_off()
         self._leave(None)
 
     def power_on(self) -> None:
-        """Restores the power. Both error counts are 0, and the programs that `power_off` killed start again."""
+        """Restores the node's power. Both error counts are 0, and the programs that `power_off` killed are started
+        again."""
         self.wake()
         for program in self._programs:
             program._power_on()
@@ -77,10 +79,10 @@ class Node(NamesWhatThereIs):
     def sleep(self, wake_on: Optional[WakeOn] = None) -> None:
         """Takes the node off the bus as if it slept. Its programs continue, but their sends are refused.
 
-        A frame from another node wakes this node if its identifier is in `wake_on`: an identifier, the name of a
+        A frame from another node wakes this node up if its identifier is in `wake_on`: an identifier, the name of a
         message, a range such as ``range(0x500, 0x540)``, or a list of these. The programs don't receive this frame.
-        Only classical data frames wake a node, as with transceivers for selective wake-up. Identifiers above 7FF have
-        29 bits. Without `wake_on` only the calls `wake` and `power_on` wake the node.
+        Only classical data frames wake a node up, as with transceivers for selective wake-up. Identifiers above 7FF
+        have 29 bits. Without `wake_on`, only the calls `wake` and `power_on` wake the node up.
         """
         self._leave(None if wake_on is None else WakeUp(wake_on, self._run.database))
 
@@ -92,7 +94,8 @@ class Node(NamesWhatThereIs):
     def unplugged(self) -> Iterator[None]:
         """Unplugs the node's cable during the `with` block, while its programs continue. If the node slept before, it
         sleeps again afterwards."""
-        # A frame may wake the node at the same time. The lock ensures that the node is awake completely or not at all.
+        # A frame may wake the node up at the same time. The lock ensures that the node wakes up completely or not at
+        # all.
         with self._run._sleepers.lock:
             was_off, wake_up = self._is_off, self._wake_up
             self._leave(None)
@@ -106,7 +109,7 @@ class Node(NamesWhatThereIs):
             close_at_exit(lambda: self._leave(wake_up) if was_off else self.wake(), kind)
 
     def _return(self, up: Callable[[str], None]) -> None:
-        """Brings the node's interface up with `up`, and resumes the messages of its rest buses."""
+        """Brings the node's interface up by calling `up`, and restarts its messages in rest buses."""
         with self._run._sleepers.lock:
             self._run._sleepers.remove(self.name)
             up(self.name)
@@ -116,7 +119,7 @@ class Node(NamesWhatThereIs):
                 rest._resume(messages)
 
     def _leave(self, wake_up: Optional[WakeUp]) -> None:
-        """Takes the node off the bus until it is woken by a call, or by a frame in `wake_up`."""
+        """Takes the node off the bus until a call, or a frame in `wake_up`, wakes it up."""
         with self._run._sleepers.lock:
             self._run._sleepers.remove(self.name)
             self._ceased += [(rest, rest._silence(self.name)) for rest in self._run._open_rest_buses()]

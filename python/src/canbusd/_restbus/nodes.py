@@ -1,5 +1,5 @@
-"""The messages that each node of a database sends in a rest bus, the interface of each node, and the first due
-times."""
+"""The messages that each node of a database sends in a rest bus, the node's interface, and when the messages are first
+due."""
 
 import os
 from collections.abc import Iterable, Mapping, Sequence
@@ -14,20 +14,19 @@ Source = Union[Database, str, "os.PathLike[str]"]
 
 
 class NoInterface(ValueError):
-    """A node that sends a message has no interface or an unknown one. The text ends with a suggestion of Python
-    arguments."""
+    """A node that sends a message has no interface or an unknown one. The exception's text ends with a suggestion of
+    Python arguments."""
 
     def __init__(self, node: str, interface: str, known: Sequence[str]) -> None:
         self.node, self.known = node, known
-        #: The error without the suggestion.
+        #: The error message without the suggestion.
         self.fault = f"node {node} has no interface{f' {interface!r}' if interface else ''}"
         cure = f"give nodes={{{node!r}: ..}} or interface=.., one of {', '.join(known)}, or without=[{node!r}]"
         super().__init__(f"{self.fault}: {cure}")
 
 
 def database_of(source: Source) -> Database:
-    """Returns the database, or loads it if the caller gives the path of its file. Raises ValueError for other
-    arguments."""
+    """Returns the database. If the caller passes the path of a file, loads it. Raises ValueError for other arguments."""
     if isinstance(source, Database):
         return source
     if not isinstance(source, (str, os.PathLike)):
@@ -36,7 +35,7 @@ def database_of(source: Source) -> Database:
 
 
 def sender(message: MessageFormat) -> str:
-    """Returns the node that sends a message, or the empty text if there is none."""
+    """Returns the node that sends a message, or the empty string if there is none."""
     return message.senders[0] if message.senders else ""
 
 
@@ -51,8 +50,8 @@ def has(message: MessageFormat, name: str) -> bool:
 
 
 def phases_of(messages: Sequence[MessageFormat]) -> list[int]:
-    """Returns when the first frame of each message is due after the start: the delay in the file, or a time that keeps
-    frames apart."""
+    """Returns how long after the start the first frame of each message is due: the delay in the file, or a time that
+    keeps the frames apart."""
     cyclic = [message for message in messages if message.is_cyclic]
     spread = dict(zip((one.name for one in cyclic), phases([micros(message.cycle_time) for message in cyclic])))
     return [micros(one.start_delay) if one.start_delay else spread.get(one.name, 0) for one in messages]
@@ -67,8 +66,8 @@ def interfaces_of(
 ) -> dict[str, str]:
     """Returns the interface of each node that sends a message, except for the nodes in `without`.
 
-    This is the interface for the node in `nodes`, or `interface`, or the interface with the node's name. Raises
-    NoInterface if none of these exists, and ValueError if the name of a node is wrong.
+    This is the node's entry in `nodes`, otherwise `interface`, otherwise the interface that has the name of the node.
+    Raises NoInterface if there is no such interface, and ValueError if the name of a node is wrong.
     """
     senders = list(dict.fromkeys(sender(message) for message in database.messages if message.senders))
     if not isinstance(nodes, Mapping):

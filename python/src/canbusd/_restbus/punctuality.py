@@ -1,6 +1,6 @@
-"""Makes the threads of this process punctual.
+"""Keeps the threads of this process punctual.
 
-By default a thread that computes blocks other threads for 5 milliseconds at a time. A full garbage collection blocks
+By default, a thread that computes blocks other threads for 5 milliseconds at a time. A full garbage collection blocks
 all threads while it visits every object. With the objects of pytest and a database library this takes 30 milliseconds.
 """
 
@@ -8,13 +8,13 @@ import gc
 import sys
 import threading
 
-#: The maximum time in seconds for which a thread that computes blocks other threads.
+#: The maximum time in seconds for which a thread that computes may block other threads.
 INTERVAL = 0.0001
 
 
 class Punctuality:
-    """While some user needs punctuality, threads switch more often, and the garbage collector skips all objects that
-    already existed."""
+    """While at least one caller needs punctuality, Python switches threads more often, and the garbage collector
+    ignores the objects that already existed."""
 
     def __init__(self) -> None:
         self._lock = threading.Lock()
@@ -23,7 +23,7 @@ class Punctuality:
         self._has_frozen = False
 
     def begin(self) -> None:
-        """Registers a user who needs punctuality until the matching call of `end`."""
+        """Registers a caller that needs punctuality until it calls `end`."""
         with self._lock:
             self._users += 1
             if self._users == 1:

@@ -6,25 +6,25 @@ from collections.abc import Callable, Iterator, Sequence
 from typing import Optional
 
 MICROS = 1_000_000
-#: Times in microseconds: a slot in which about two frames fit at 500 kbit/s, and the length of time for which phases
-#: are compared.
+#: Times in microseconds: the length of a slot, in which about two frames fit at 500 kbit/s, and the period for which
+#: phases are compared.
 SLOT, LONGEST = 500, 2 * MICROS
-#: The golden ratio. The fractional parts of its multiples are evenly spread between 0 and 1, for any count.
+#: The golden ratio. The fractional parts of its first n multiples are evenly spread between 0 and 1, for any n.
 GOLDEN = (math.sqrt(5) - 1) / 2
-#: The maximum number of phases that are compared for a message.
+#: The maximum number of phases that are compared for each message.
 TRIES = 128
 
 
 class Schedule:
-    """Calls sorted by due time. Calls that are due at the same time are sorted by `order`, and then by when they were
-    added."""
+    """Calls sorted by due time. Calls that are due at the same time are sorted by `order`, and then by the time when
+    they were added."""
 
     def __init__(self) -> None:
         self._heap: list[tuple[int, int, int, Callable[[int], None]]] = []
         self._added = 0
 
     def add(self, due: int, order: int, call: Callable[[int], None]) -> None:
-        """Adds a call. Its argument will be its due time."""
+        """Adds a call. The call gets its due time as the argument."""
         heapq.heappush(self._heap, (due, order, self._added, call))
         self._added += 1
 
@@ -33,8 +33,7 @@ class Schedule:
         return self._heap[0][0] if self._heap else None
 
     def take(self, now: int) -> Iterator[tuple[int, Callable[[int], None]]]:
-        """Yields the calls that are due at or before this time, with their due times. These calls may add further
-        calls."""
+        """Yields the calls that are due by `now`, each with its due time. These calls may add further calls."""
         while self._heap and self._heap[0][0] <= now:
             due, _, _, call = heapq.heappop(self._heap)
             yield due, call
@@ -46,10 +45,10 @@ def micros(seconds: float) -> int:
 
 
 def phases(cycles: Sequence[int]) -> list[int]:
-    """Returns the first due time for each cycle time. The times are chosen so that few frames are due together.
+    """Returns the first due time for each cycle time. The times are chosen so that few frames are due at the same time.
 
     The shortest cycle times are placed first. For each cycle time, this function tries several times within the first
-    cycle, and takes the one with the fewest frames of other messages near it.
+    cycle, and chooses the one with the fewest frames of other messages near it.
     """
     if not cycles:
         return []

@@ -1,4 +1,4 @@
-"""Mixins that enable a bench or a server to simulate nodes."""
+"""Mixins with which a bench or a server can simulate nodes."""
 
 from collections.abc import Mapping, Sequence
 from typing import TYPE_CHECKING, Any, Generic, Literal, Optional, TypeVar, Union
@@ -18,10 +18,10 @@ Library = Literal["can-isotp", "canbusd-run", "canbusd"]
 
 
 class HasRestBus(Generic[R]):
-    """The methods for rest buses that a bench and a server share."""
+    """The methods for rest buses that a bench and a server have in common."""
 
     database: "Optional[Database]"
-    # The rest buses made so far.
+    # The rest buses created so far.
     _rest_buses: "list[R]"
 
     def down(self, name: str) -> None:
@@ -38,7 +38,7 @@ class HasRestBus(Generic[R]):
         raise NotImplementedError
 
     def _make_rest_bus(self, database: "Database", interfaces: Mapping[str, str]) -> R:
-        """Returns a rest bus for a database. `interfaces` has the interface of each node."""
+        """Returns a rest bus for a database. `interfaces` maps each node to its interface."""
         raise NotImplementedError
 
     @explained()
@@ -53,13 +53,14 @@ class HasRestBus(Generic[R]):
         `without`.
 
         On a server the nodes send during the `with` block, on a bench during `rest.run(until=..)`. A node sends from
-        its interface in `nodes`, or from `interface`, or from the interface with the node's name.
+        its interface in `nodes`, otherwise from `interface`, otherwise from the interface that has the name of the
+        node.
         """
         from canbusd._restbus.nodes import database_of, interfaces_of
 
         known = database_of(database)
         found = interfaces_of(known, without, nodes or {}, interface, self.interfaces)
-        # Expectations of the test then know the names in the database too.
+        # The expectations of the test can then also use the names in this database.
         self.database = known if self.database is None else self.database.with_more(known)
         rest = self._make_rest_bus(known, found)
         self._rest_buses = [*self._open_rest_buses(), rest]
@@ -102,14 +103,14 @@ class SimulatesNodes(HasRestBus["RestBus"]):
         library: Optional[Library] = None,
     ) -> "IsoTp":
         """Returns an ISO-TP endpoint on an interface. It sends frames with the identifier `tx`, and receives frames
-        with `rx`.
+        with the identifier `rx`.
 
         Identifiers above 7FF have 29 bits. `padding` is the byte that fills frames up to 8 bytes. `tx_dl` is the
         maximum number of bytes in a sent frame, up to 64 with `fd`. `stmin`, as a byte, and `block_size` are the values
         in the endpoint's flow control frames. `extended` is the address in the first byte of each frame, or a pair of
         addresses for sent and received frames. `functional` is the identifier of requests to all nodes: the endpoint
-        receives these too, and sends them with ``send(data, functional=True)``. The implementation is can-isotp if it
-        is installed, or a socket of canbusd-run, or Python code.
+        also receives these, and sends them with ``send(data, functional=True)``. The implementation is can-isotp if it
+        is installed, otherwise a socket of canbusd-run or Python code.
         """
         from canbusd._isotp.options import options_of
         from canbusd.isotp import open_isotp

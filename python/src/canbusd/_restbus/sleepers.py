@@ -1,4 +1,4 @@
-"""The nodes of a bench or a server that sleep until a frame wakes them."""
+"""The nodes of a bench or a server that sleep until a frame wakes them up."""
 
 import logging
 import threading
@@ -15,22 +15,24 @@ from canbusd.frames import Frame, frame_of
 from canbusd.record import Attempt
 
 LOG = logging.getLogger("can.canbusd")
-#: Wakes a node. The argument is a function that brings up the interface with a given name.
+#: Wakes a node up. The argument is a function that brings up the interface with a given name.
 Wake = Callable[[Callable[[str], None]], None]
 
 
 class Sleeper(NamedTuple):
-    """A sleeping node. The function `wake` wakes it."""
+    """A sleeping node. The function `wake` wakes it up."""
 
     wake_up: WakeUp
     wake: Wake
-    #: For each interface, the number of frames that its session had received when the node fell asleep.
+    #: How many frames the session on each interface had received when the node fell asleep.
     before: dict[str, int]
 
 
 class Sleepers:
-    """The sleeping nodes of a bench. The bench passes each attempt to `note`. A thread holds `lock` while a node falls
-    asleep or wakes up."""
+    """The sleeping nodes of a bench. The bench passes each attempt to `note`.
+
+    A thread holds `lock` while a node falls asleep or wakes up.
+    """
 
     def __init__(self, lock: "threading.RLock", up: Callable[[str], None]) -> None:
         self.lock, self._up = lock, up
@@ -41,27 +43,27 @@ class Sleepers:
         return len(self._asleep)
 
     def add(self, name: str, wake_up: WakeUp, wake: Wake) -> None:
-        """Adds a sleeping node, whose interface is down."""
+        """Adds a sleeping node. Its interface is already down."""
         self._asleep[name] = Sleeper(wake_up, wake, {})
 
     def remove(self, name: str) -> None:
-        """Removes the node with this interface if it sleeps."""
+        """Removes the node with this interface if it is asleep."""
         self._asleep.pop(name, None)
 
     def are_woken_by(self, attempt: Attempt) -> bool:
-        """Returns whether the frame of this attempt wakes a node. Only a frame that some node received completely
-        counts."""
+        """Returns whether the frame of this attempt wakes a node up. The frame must have been received completely by
+        some node."""
         is_whole = attempt.outcome == "done" or bool(attempt.accepted)
         return is_whole and any(one.wake_up.matches(Frame.parse(attempt.frame)) for one in self._asleep.values())
 
     def note(self, attempt: Attempt) -> None:
-        """Wakes the nodes that the frame of this attempt wakes."""
+        """Wakes up the nodes that the frame of this attempt wakes."""
         if self.are_woken_by(attempt):
             self._wake_by(Frame.parse(attempt.frame))
 
     def _wake_by(self, frame: Frame, channel: str = "", number: int = 0) -> None:
-        """Wakes the nodes that this frame wakes. Before this frame, the session on the interface `channel` received
-        `number` frames."""
+        """Wakes up the nodes that this frame wakes. `number` is how many frames the session on the interface `channel`
+        received before this frame."""
         for name, sleeper in list(self._asleep.items()):
             if number >= sleeper.before.get(channel, 0) and sleeper.wake_up.matches(frame):
                 self.remove(name)
@@ -69,10 +71,10 @@ class Sleepers:
 
 
 class Watch(RawSession):
-    """A session on an interface that receives the frames that wake nodes."""
+    """A session on an interface that receives the frames that wake nodes up."""
 
     def __init__(self, address: str, name: str) -> None:
-        #: The number of frames taken from this session.
+        #: How many frames were taken from this session.
         self.taken = 0
         try:
             super().__init__(address, name, [str(filter_message(NO_FRAMES))], TIMEOUT)
@@ -82,12 +84,12 @@ class Watch(RawSession):
 
 
 class LiveSleepers(Sleepers):
-    """The sleeping nodes of a server. While a node sleeps, a session on each interface of its bus receives the frames
-    that wake it. All interfaces are needed, because any of them may be down."""
+    """The sleeping nodes of a server. While a node sleeps, sessions on all interfaces of its bus receive the frames
+    that wake it up. All interfaces are needed, because any of them may be down."""
 
     def __init__(self, address: str, buses: Sequence[Sequence[str]]) -> None:
-        # These sessions are separate from the server's own sessions, because another thread may be waiting for the
-        # frames of the server's own sessions.
+        # These sessions are separate from the server object's own sessions, because another thread may be waiting for
+        # frames at the latter.
         super().__init__(threading.RLock(), lambda name: self._watches[name].up())
         self._address, self._buses = address, buses
         self._watches: dict[str, Watch] = {}
@@ -100,7 +102,7 @@ class LiveSleepers(Sleepers):
                 threading.Thread(target=self._read, args=(watch,), name="canbusd wake-up", daemon=True).start()
         super().add(name, wake_up, wake)
         self._filter()
-        # Earlier frames may still be on their way to this process.
+        # Frames that were sent earlier may still be on their way to this process.
         before = {one: self._watches[one].stats().queued for one in names}
         self._asleep[name] = Sleeper(wake_up, wake, before)
 
@@ -118,8 +120,8 @@ class LiveSleepers(Sleepers):
             watch.close()
 
     def _filter(self) -> None:
-        """Sets filters so that the sessions receive the frames that wake a node. If the filters do not fit into a
-        message, the sessions receive all frames, and only this process filters."""
+        """Sets filters so that the sessions receive only the frames that wake a node up. If the filters do not fit into
+        one message, the sessions receive all frames, and this process alone selects them."""
         filters = [one for sleeper in self._asleep.values() for one in sleeper.wake_up.filters] or NO_FRAMES
         message = filter_message(filters) or filter_message(None)
         for watch in self._watches.values():

@@ -1,1 +1,1 @@
-"""Runs: their events in columns, their description in words, their logs, and the comparison of two runs."""
+"""Runs: their events as columns of numbers, their description in words, their logs, and the comparison of two runs."""

@@ -1,7 +1,7 @@
-"""Finds the frames that two runs share. Frames of the same sender with the same identifier form a row in each run.
+"""Finds the frames that two runs have in common.
 
-In both rows the algorithm of Myers (An O(ND) Difference Algorithm, 1986) finds the frames with the same data. The
-frames between these are paired in order.
+In each run, the frames of one sender with the same identifier form a row. Myers's algorithm (An O(ND) Difference
+Algorithm, 1986) finds the frames with the same data in both rows. The frames between them are paired in order.
 """
 
 from collections.abc import Iterator, Sequence
@@ -9,32 +9,32 @@ from typing import NamedTuple, Optional
 
 from canbusd.record import Attempt
 
-#: The most edits between two rows that the search allows; rows that differ more are paired in order.
+#: The maximum number of edits for which the search continues. Rows that differ by more edits are paired in order.
 MOST_EDITS = 400
 Place = Optional[int]
 
 
 class Sent(NamedTuple):
-    """A frame of a run: the numbers of its attempts in the run."""
+    """A frame of a run, given by the indices of its attempts in the list of the run's attempts."""
 
     attempts: list[int]
 
     @property
     def first(self) -> int:
-        """The frame's first attempt."""
+        """The index of the frame's first attempt."""
         return self.attempts[0]
 
 
 class Pair(NamedTuple):
-    """A frame of the first run and the same frame of the second run. One of the two is None if only one run has the
-    frame."""
+    """A frame of the first run and the matching frame of the second run. One of the two is None if only one run
+    contains the frame."""
 
     one: Optional[Sent]
     other: Optional[Sent]
 
 
 def pairs_of(one: Sequence[Attempt], other: Sequence[Attempt]) -> Iterator[list[Pair]]:
-    """Yields the pairs of frames of each sender and identifier, in order."""
+    """Yields, for each sender and identifier, the pairs of frames in order."""
     left, right = rows_of(one), rows_of(other)
     for key in {**left, **right}:
         rows = left.get(key, []), right.get(key, [])
@@ -58,7 +58,7 @@ def rows_of(attempts: Sequence[Attempt]) -> dict[tuple[str, str], list[Sent]]:
 
 
 def aligned(one: Sequence[str], other: Sequence[str]) -> list[tuple[Place, Place]]:
-    """Returns pairs of places in the two rows. None means that a row lacks the frame."""
+    """Returns pairs of indices in the two rows. None means that the frame is missing from that row."""
     most = min(len(one), len(other))
     begin = next((k for k in range(most) if one[k] != other[k]), most)
     end = next((k for k in range(most - begin) if one[-1 - k] != other[-1 - k]), most - begin)
@@ -75,7 +75,7 @@ def aligned(one: Sequence[str], other: Sequence[str]) -> list[tuple[Place, Place
 
 
 def between(first: tuple[int, int], end: tuple[int, int]) -> Iterator[tuple[Place, Place]]:
-    """Yields pairs for the frames between two equal frames, in order."""
+    """Yields index pairs for the frames between two matched frames, in order."""
     left, right = range(first[0], end[0]), range(first[1], end[1])
     paired = min(len(left), len(right))
     yield from zip(left, right)
@@ -84,10 +84,10 @@ def between(first: tuple[int, int], end: tuple[int, int]) -> Iterator[tuple[Plac
 
 
 def common(one: Sequence[str], other: Sequence[str]) -> list[tuple[int, int]]:
-    """Returns the places of a longest common subsequence, or an empty list if the rows differ by more than
-    MOST_EDITS."""
-    # `ends` has, for each diagonal, the place in the first row that the edits have reached. `before` has a copy of
-    # `ends` for each number of edits.
+    """Returns the index pairs of a longest common subsequence, or an empty list if the rows differ by more than
+    MOST_EDITS edits."""
+    # `ends` maps each diagonal to the index in the first row that has been reached. `before` contains a copy of `ends`
+    # for each number of edits.
     ends, before = {1: 0}, []
     for edits in range(min(len(one) + len(other), MOST_EDITS) + 1):
         before.append(dict(ends))
@@ -103,7 +103,7 @@ def common(one: Sequence[str], other: Sequence[str]) -> list[tuple[int, int]]:
 
 
 def walked_back(before: Sequence[dict[int, int]], x: int, y: int) -> list[tuple[int, int]]:
-    """Traces the pairs back from the end of both rows, and returns them."""
+    """Traces the index pairs back from the end of both rows, and returns them in order."""
     pairs = []
     for edits in range(len(before) - 1, -1, -1):
         ends, diagonal = before[edits], x - y

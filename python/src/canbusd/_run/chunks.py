@@ -1,7 +1,7 @@
-"""Converts some lines of a run's events to columns. The earlier lines are not needed, so any process can do this.
+"""Converts some lines of a run's events to columns.
 
-Entries, steps and items are counted from the first of these lines. `Replay` takes the columns of all lines and adds
-everything that depends on earlier lines.
+The earlier lines are not needed, so any process can do this. Entries, steps and items are counted from the first of
+these lines. `Replay` adds the columns of all lines to the run, with everything that depends on earlier lines.
 """
 
 import itertools
@@ -18,7 +18,7 @@ from canbusd._run.event_parts import Outcomes, Parts
 from canbusd._run.run_parts import WAITING_BITS, Bus
 from canbusd._run.steps import DONE, DOWN, RESTART, Places
 
-#: The numbers of the interfaces, by their text in the lines.
+#: Maps the numbers of interfaces, as strings in the lines, to integers.
 IFACES = {str(number): number for number in range(16)}
 
 
@@ -27,7 +27,7 @@ class Loss(NamedTuple):
 
     step: int
     frames: int
-    #: How many frames left the queue in earlier steps of these lines. None at bus off, where the first lost frame is
+    #: How many frames left the queue in earlier steps of these lines. None for bus off, when the first lost frame is
     #: the frame of the step.
     gone: Optional[int]
 
@@ -36,11 +36,11 @@ class Drop(NamedTuple):
     """Items that were dropped because the queue of a socket was full."""
 
     step: int
-    #: The place of the first dropped item among all items.
+    #: The index of the first dropped item among all items.
     item: int
     socket: int
     items: int
-    #: Whether the dropped items are certainly no error message frames.
+    #: Whether the dropped items are known not to be error message frames.
     is_frame: bool
 
 
@@ -54,71 +54,73 @@ def column(code: str) -> "array[int]":
 class Chunk:
     """The contents of some lines as columns. Most columns have one number for each step."""
 
-    #: The number of entries.
+    #: The number of entries in these lines.
     entry_count: int
-    #: The lines of rare kinds, each with the number of steps before the line and the number of its entry.
+    #: The lines of infrequent kinds, each with the number of steps before the line and the index of its entry.
     others: list[tuple[str, int, int]]
-    #: The lines of accepted sends, without the final LF, and the interface of each send.
+    #: The lines of accepted sends without the final LF, and the interface of each send.
     sends: str
     senders: bytes
-    #: Maps each socket to the number of steps before each of its items was taken.
+    #: For each socket, a column with an entry for each item that was taken from it: how many steps preceded this.
     taken: "dict[int, array[int]]"
     kinds: "array[int]" = column("B")
     ifaces: "array[int]" = column("B")
     entries: "array[int]" = column("I")
     moments: "array[int]" = column("Q")
     numbers: "array[int]" = column("I")
-    #: Places in the lists of texts: `frames` for frames and error message frames, `verdicts` for verdicts.
+    #: Indices into the lists of strings: `frames` into `texts`, which includes error message frames, and `verdicts`
+    #: into `verdict_texts`.
     frames: "array[int]" = column("I")
     verdicts: "array[int]" = column("I")
     texts: list[str] = field(default_factory=list)
     verdict_texts: list[str] = field(default_factory=list)
     accepted: "array[int]" = column("H")
     off: "array[int]" = column("H")
-    #: The increase in the number of waiting frames at each interface since the first line, as packed by `Waiting`.
+    #: For each step, the increase in the number of waiting frames at each interface since the first line, as packed by
+    #: `Waiting`.
     waiting: bytes = b""
-    #: The same increase after the last line, as one number.
+    #: The increase from before the first line to after the last line, for all interfaces combined in one number.
     waiting_more: int = 0
-    #: Four columns with times on the wire. The list is empty if no line has such a time.
+    #: Four columns with the times on the wire. The list is empty if no line contains such a time.
     wires: "list[array[int]]" = field(default_factory=list)
-    #: The two error counts of each interface, and 0 before the first step that reports them. Empty if no step reports
-    #: any.
+    #: The two error counts of each interface after each step, or 0 before the first step that reports them. The column
+    #: is empty if no step reports any error counts.
     counts: "array[int]" = column("H")
-    #: Maps the place of an interface's two counts to the first step that reports these counts.
+    #: Maps the index of an interface's two counts to the first step that reports these counts.
     counted_from: dict[int, int] = field(default_factory=dict)
     #: The steps that changed error counts.
     changed: "array[int]" = column("I")
-    #: The steps that are restarts, or in which an interface went down.
+    #: The steps in which an interface was restarted or went down.
     breaks: list[int] = field(default_factory=list)
-    #: The steps with a local fault, and the set of interfaces that see the fault.
+    #: The steps with a local fault, each with the set of interfaces that see the fault.
     local: list[tuple[int, int]] = field(default_factory=list)
     lost: list[Loss] = field(default_factory=list)
-    #: The socket and the step of each item that was handed to a socket, and the number of items for each socket.
+    #: The socket and the step of each item that was handed to a socket, and how many items each socket was handed.
     item_sockets: bytes = b""
     item_steps: "array[int]" = column("I")
     handed: dict[int, int] = field(default_factory=dict)
-    #: The items that are error message frames, and the places of these frames in the list of texts.
+    #: The items that are error message frames, and the indices of these frames in `texts`.
     errors: "array[int]" = column("I")
     error_texts: "array[int]" = column("I")
     dropped: list[Drop] = field(default_factory=list)
 
 
 class Reader:
-    """Reads lines of a run's events for a bus."""
+    """Reads event lines of a run on a bus."""
 
     def __init__(self, bus: Bus) -> None:
         self._count, self._may_restart = bus.ifaces, bus.auto_restart > 0
         # The interface of each socket that was opened so far.
         self._sockets: list[int] = []
         self._outcomes = Outcomes(self._sockets)
-        # One number combines the counts of waiting frames at all interfaces. This list has the increment for one frame
-        # at each interface.
+        # One integer combines the counts of waiting frames at all interfaces. This list contains the increment of this
+        # integer for one frame at each interface.
         self._units = [1 << WAITING_BITS * iface for iface in range(bus.ifaces)]
         self._waiting = Waiting(bus.ifaces)
 
     def read(self, text: str, sockets: Sequence[int]) -> Chunk:
-        """Returns the contents of complete lines, without the final LF. `sockets` has the interfaces of the sockets
-        that were opened before."""
+        """Reads complete lines, given without the final LF, and returns their contents. `sockets` lists the interfaces
+        of the sockets that were opened before these lines."""
         lines = Lines(text, self._may_restart)
         others = [*zip(lines.of(OTHER), lines.steps_before(OTHER), lines.entries_of(OTHER))] if lines.has_others else []
         self._sockets[:] = [*sockets, *opened_in(line for line, _, _ in others)]
@@ -182,8 +184,8 @@ class Reader:
         left: Sequence[int],
         handed: Sequence[int],
     ) -> None:
-        """Reads the frames and the rare effects of steps. The text of an error message frame comes after the text of
-        its step."""
+        """Reads the frames and the rare effects of steps. The index of an error message frame in `texts` comes after
+        the index of its step's frame."""
         places, first = Places[str](), 0
         counts, seen = array("H", [0]) * (2 * self._count), [array("H", [0]) * (2 * self._count)]
         items = [*itertools.accumulate(handed, initial=0)] if any(parts) else []
@@ -203,7 +205,7 @@ class Reader:
                 found.errors.extend(items[step] + place for place, _ in part.errors)
                 found.error_texts.extend(places.places_of(text for _, text in part.errors))
             if part.dropped:
-                # A step that changed no count has no error message frame either.
+                # A step that changed no error count has no error message frame either.
                 is_frame = found.kinds[step] == DONE and not part.counts and is_good(found, step)
                 found.dropped += drops_of(part, step, items[step + 1], is_frame)
         found.frames.fromlist(places.places_of(frames[first:]))
@@ -219,7 +221,7 @@ def is_good(found: Chunk, step: int) -> bool:
 
 
 def drops_of(part: Parts, step: int, end: int, is_frame: bool) -> Iterable[Drop]:
-    """Yields the dropped items of a step. They are the last items before the place `end`."""
+    """Yields the dropped items of a step. They are the items just before index `end`."""
     place = end - sum(count for _, count in part.dropped)
     for socket, count in part.dropped:
         yield Drop(step, place, socket, count, is_frame)
@@ -227,7 +229,7 @@ def drops_of(part: Parts, step: int, end: int, is_frame: bool) -> Iterable[Drop]
 
 
 def gone_before(found: Chunk, left: Sequence[int], step: int) -> Optional[int]:
-    """Returns how many frames left the queue of an interface in earlier steps if the interface goes down in this step.
+    """Returns how many frames left the queue of an interface in earlier steps, if the interface goes down in this step.
     Returns None for other steps."""
     if found.kinds[step] != DOWN:
         return None
@@ -235,7 +237,7 @@ def gone_before(found: Chunk, left: Sequence[int], step: int) -> Optional[int]:
 
 
 def opened_in(lines: Iterable[str]) -> Iterable[int]:
-    """Yields the interface of each socket that the lines open."""
+    """Yields the interface of each socket that is opened in these lines."""
     for line in lines:
         if line.startswith("open "):
             iface, _, _, reply = line.split(" ")[1:5]
@@ -244,11 +246,12 @@ def opened_in(lines: Iterable[str]) -> Iterable[int]:
 
 
 def taken_in(lines: Lines, sockets: int) -> "dict[int, array[int]]":
-    """Maps each socket to the number of steps before each of its items was taken. `sockets` is the number of
-    sockets."""
-    # The last column receives the items that no socket got. It is not returned.
+    """For each socket, returns a column with an entry for each item that was taken from it: how many steps preceded
+    this. `sockets` is the number of sockets."""
+    # The last column collects the receives that returned no item. It is not returned.
     columns = [array("I") for _ in range(sockets + 1)]
     takers = map(columns.__getitem__, receivers_of(lines.of(RECEIVE), sockets))
-    # This appends a number for each line. A deque with a maximum length of 0 is the fastest way to consume an iterator.
+    # This line appends a number to a column for each receive. A deque with a maximum length of 0 is the fastest way to
+    # consume an iterator.
     deque(map(array.append, takers, lines.steps_before(RECEIVE)), maxlen=0)
     return {socket: column for socket, column in enumerate(columns[:-1]) if column}

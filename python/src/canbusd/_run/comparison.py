@@ -1,6 +1,6 @@
 """Compares two runs and finds the differences between their frames.
 
-Frames of both runs are matched by sender, identifier and order, so all attempts of a frame count as one frame.
+Frames of both runs are matched by sender, identifier and order, and all attempts to send a frame count as one frame.
 Interfaces are compared by name if both runs name all their interfaces, otherwise by number.
 """
 
@@ -16,9 +16,9 @@ from canbusd._text import times
 from canbusd.record import Attempt, Record, attempts_of, is_named, number_named
 
 Kind = Literal["only here", "only there", "other data", "other outcome", "later", "earlier", "restarts", "downs"]
-#: The tolerance for the times of a frame, in seconds. Times are relative to the first frame of each run.
+#: The tolerance in seconds for the times of a frame. Times are relative to the first frame of each run.
 TOLERANCE = 0.01
-# The maximum number of differences that are listed as text.
+# The maximum number of differences that `lines` lists.
 MOST_LISTED = 1000
 SIGNS = {"only here": "-", "only there": "+"}
 
@@ -27,9 +27,11 @@ class Difference(NamedTuple):
     """A difference between the two runs."""
 
     kind: Kind
-    #: The attempt in the first run. If only the second run has the frame, the attempt that follows the frame's place.
+    #: The attempt in the first run. If only the second run contains the frame, this is the attempt before which the
+    #: frame would be.
     attempt: int
-    #: The attempt in the second run, found in the same way.
+    #: The attempt in the second run. If only the first run contains the frame, this is the attempt before which the
+    #: frame would be.
     other: int
     words: str
 
@@ -44,7 +46,7 @@ def names_of_both(one: Record, other: Record) -> tuple[Sequence[str], Sequence[s
     """Returns the names that are used to compare and to show the interfaces of two runs.
 
     If all interfaces have names, each run uses its own names. Otherwise both runs use the same name for an interface,
-    taken from the run that has one. If the runs have different names for an interface, both use numbers.
+    taken from the run that names it. If the runs have different names for an interface, both use numbers.
     """
     if all(map(is_named, [*one.names, *other.names])):
         return one.names, other.names
@@ -57,20 +59,21 @@ def names_of_both(one: Record, other: Record) -> tuple[Sequence[str], Sequence[s
 
 
 class Comparison:
-    """Two runs, with names for comparing them. `title` is the title of the second run on a page."""
+    """Two runs, with the interface names that are used to compare them. `title` is the title of the second run on a
+    page."""
 
     def __init__(self, one: Record, other: Record, title: str = "", tolerance: float = TOLERANCE) -> None:
         self.records, self.title, self.tolerance = (one, other), title, tolerance
         self.names = names_of_both(one, other)
         made = [attempts_of(record.replay, names) for record, names in zip(self.records, self.names)]
-        #: The attempts of both runs that had a frame, counted from 0.
+        #: The attempts of both runs that had a frame. Their indices start at 0.
         self.one, self.other = ([attempt for attempt in run if attempt.outcome != "idle"] for run in made)
         self._restarted = [collections.Counter(name for attempt in run for name in attempt.restarted) for run in made]
         self._downed = [downs_of(record, names) for record, names in zip(self.records, self.names)]
         self._rows = list(pairs_of(self.one, self.other))
 
     def reversed(self, title: str) -> "Comparison":
-        """Returns the comparison with the two runs swapped. The pairs of frames are the same. `title` is the new
+        """Returns the comparison with the two runs swapped. The pairs of frames stay the same. `title` is the new
         title."""
         turned = object.__new__(Comparison)
         turned.records, turned.names = self.records[::-1], self.names[::-1]
@@ -82,8 +85,8 @@ class Comparison:
 
     @functools.cached_property
     def partners(self) -> dict[int, int]:
-        """Maps attempts of the second run to the matching attempts of the first run. The attempts of a frame are
-        matched backwards from the last one."""
+        """Maps attempts of the second run to the matching attempts of the first run. The attempts to send a frame are
+        matched from the last one backwards."""
         found: dict[int, int] = {}
         for pair in itertools.chain(*self._rows):
             if pair.one is not None and pair.other is not None:
@@ -93,7 +96,7 @@ class Comparison:
     @functools.cached_property
     def differences(self) -> list[Difference]:
         """All differences between the runs, in order."""
-        # For a frame that only one run has, its place in the other run.
+        # If only one run contains a frame, these are its positions in the other run.
         here, there = places(self.partners, len(self.other)), places(reversed_pairs(self.partners), len(self.one))
         found = [one for row in self._rows for one in self._in_row(row, here, there)]
         more = [
@@ -128,7 +131,7 @@ class Comparison:
         if ends[0] != ends[1]:
             kinds.append(("other outcome", f"{ends[0]} against {ends[1]}"))
         else:
-            # A frame that a node missed during its outage is not a separate difference.
+            # If a node missed a frame during its outage, this is not a separate difference.
             gone = self._away[0][one.first] | self._away[1][other.first]
             takers = accepted(self.one, one, gone), accepted(self.other, other, gone)
             if takers[0] != takers[1]:
@@ -141,7 +144,7 @@ class Comparison:
             yield Difference(kinds[0][0], one.first, other.first, about + "; ".join(words for _, words in kinds))
 
     def _counted(self, kind: Kind, did: str, counts: "Sequence[collections.Counter[str]]") -> Iterator[Difference]:
-        """Yields a difference for each interface whose count of these events differs between the runs."""
+        """Yields a difference for each interface for which the number of these events differs between the runs."""
         for name in sorted(set(counts[0]) | set(counts[1])):
             if counts[0][name] != counts[1][name]:
                 words = f"{name} {did} {times(counts[0][name], 'time')} against {counts[1][name]}"
@@ -153,7 +156,7 @@ class Comparison:
 
     @functools.cached_property
     def _shift(self) -> float:
-        """The delay of the whole second run: the time difference at the first frame that both runs have."""
+        """The delay of the second run: the time difference at the first frame that both runs contain."""
         pairs = (pair for row in self._rows for pair in row)
         both = [(one, other) for one, other in pairs if one is not None and other is not None]
         if not both:
@@ -167,7 +170,7 @@ class Comparison:
 
     @property
     def reordered(self) -> Optional[int]:
-        """The first attempt that comes later in the second run than some attempt that follows it in the first run. None
+        """The first attempt that comes later in the second run than an attempt that follows it in the first run. None
         if both runs have the same order."""
         last = -1
         for other in sorted(self.partners):
@@ -187,16 +190,16 @@ class Comparison:
         return f"No difference in {times(len(self.one), 'attempt')}"
 
     def lines(self) -> list[str]:
-        """Returns the heading and the differences as lines. A line starts with `-` if only the first run has the frame,
-        `+` if only the second run has it, and `!` if both have it."""
+        """Returns the heading and the differences as lines. A line starts with `-` if only the first run contains the
+        frame, `+` if only the second run contains it, and `!` if both contain it."""
         more = len(self.differences) - MOST_LISTED
         lines = [one.line() for one in self.differences[:MOST_LISTED]]
         return [self.heading(), *lines, *([f"and {times(more, 'difference')} more"] if more > 0 else [])]
 
 
 def places(partners: dict[int, int], count: int) -> list[int]:
-    """Returns, for each attempt of a run, the place in the other run just after the partners of all earlier
-    attempts."""
+    """Returns an index in the other run for each attempt of a run: the highest partner of the attempts so far, plus 1
+    if the attempt itself has no partner."""
     last, found = -1, []
     for attempt in range(count):
         last = max(last, partners.get(attempt, -1))
@@ -210,8 +213,8 @@ def reversed_pairs(partners: dict[int, int]) -> dict[int, int]:
 
 
 def key_of(attempt: Attempt) -> tuple[object, ...]:
-    """Returns the facts of an attempt that are compared. Sets of interfaces are in bus order, so equal sets may have
-    different keys."""
+    """Returns the properties of an attempt that are compared. Sets of interfaces are listed in bus order, so equal sets
+    may have different keys."""
     return attempt.frame, attempt.outcome, attempt.fault, attempt.accepted, attempt.off
 
 
@@ -222,7 +225,7 @@ def told(run: Sequence[Attempt], sent: Sent) -> str:
 
 
 def outcomes(run: Sequence[Attempt], sent: Sent) -> str:
-    """Returns the outcome of each attempt of a frame, such as `destroyed (global bit), then done`."""
+    """Returns the outcomes of all attempts to send a frame, such as `destroyed (global bit), then done`."""
     found = []
     for outcome, same in itertools.groupby(outcome_of(run[place]) for place in sent.attempts):
         many = len(list(same))
@@ -237,7 +240,7 @@ def outcome_of(attempt: Attempt) -> str:
 
 
 def accepted(run: Sequence[Attempt], sent: Sent, gone: "frozenset[str]") -> list[set[str]]:
-    """Returns the receivers of a frame in each attempt, except for the interfaces in `gone`."""
+    """Returns the receivers of a frame in each attempt, without the interfaces in `gone`."""
     return [set(run[place].accepted) - gone for place in sent.attempts]
 
 
@@ -264,5 +267,5 @@ def away(record: Record, names: Sequence[str]) -> "list[frozenset[str]]":
 
 
 def named(takers: Iterable[set[str]]) -> str:
-    """Returns the receivers of a frame in words."""
+    """Lists the receivers of a frame in words."""
     return ", then ".join(" and ".join(sorted(one)) or "nobody" for one in takers)

@@ -1,5 +1,4 @@
-"""Draws the events of a record as plain text with at most 120 columns: the error counters, and arbitration bit by
-bit."""
+"""Draws the events of a record as plain text of at most 120 columns: the error counters, and arbitration bit by bit."""
 
 import bisect
 from collections.abc import Iterator, Sequence
@@ -8,14 +7,14 @@ from canbusd._run.run_parts import OFF, PASSIVE, WARNING
 from canbusd._run.steps import Step, WireFrame
 from canbusd.record import Record
 
-# The width of a drawing in columns. With the texts on both sides a line has 120 columns.
+# The width of a drawing in columns. A line also contains labels on both sides, and has 120 columns in total.
 MOST_COLUMNS = 96
 HEIGHT = 16
 LIMITS = [(OFF, "bus off"), (PASSIVE, "error passive"), (WARNING, "error warning")]
 
 
 def counters(record: Record, first: int, last: int) -> Iterator[str]:
-    """Draws both error counters of each interface over the attempts `first` to `last`, and yields the lines."""
+    """Draws both error counters of each interface from attempt `first` to attempt `last`, and yields the lines."""
     run, steps = record.replay, record.replay.steps
     begin, end = bisect.bisect_left(steps.attempts, first), bisect.bisect_right(steps.attempts, last)
     rows = [steps.counts_after(begin - 1) if 0 < begin < end else ((0, 0),) * len(run.ifaces)]
@@ -36,7 +35,7 @@ def counters(record: Record, first: int, last: int) -> Iterator[str]:
 
 
 def row_of(columns: list[tuple[int, int]], floor: int, scale: int) -> str:
-    """Returns a row of a drawing, with the counts above `floor` and the limit in this row."""
+    """Returns one row of a drawing, with the counts above `floor` and with the limit if it is in this row."""
     least = max(floor, 1)
     cells = "".join("#" if transmit >= least else "o" if receive >= least else " " for transmit, receive in columns)
     limit = next((f"  {text}" for limit, text in LIMITS if floor <= limit < floor + scale), "")

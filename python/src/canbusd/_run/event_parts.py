@@ -1,4 +1,4 @@
-"""Parses the effects of steps in lines of events. Many steps share the same effects."""
+"""Parses the effects of steps in event lines. Many steps share the same effects."""
 
 import functools
 from array import array
@@ -7,7 +7,7 @@ from typing import Any, NamedTuple, Optional
 
 from canbusd._run.steps import DONE, KIND_NUMBERS, RESTART
 
-#: The maximum number of cached effects, which take some hundred bytes each. Runs with many failures have many different
+#: The maximum number of cached effects. Each takes a few hundred bytes, and runs with many failures have many different
 #: effects.
 MOST_KEPT = 4096
 
@@ -15,29 +15,29 @@ MOST_KEPT = 4096
 class Parts(NamedTuple):
     """Effects that only a few steps have."""
 
-    #: The changed error counts: the place of an interface's two counts in the column, and the two new counts.
+    #: The changed error counts: the slice of the column for an interface's two counts, and the two new counts.
     counts: list[tuple[slice, "array[int]"]]
     #: The number of frames that were removed from a transmit queue because the interface went bus off or down.
     lost: int
-    #: The error message frames, each with its place among the items of the step.
+    #: The error message frames, each with its index among the items of the step.
     errors: Sequence[tuple[int, str]]
-    #: The sockets whose queues were full, each with the number of its dropped items. These are the last items of the
+    #: The sockets whose queues were full, each with the number of items dropped there. These are the last items of the
     #: step.
     dropped: list[tuple[int, int]]
 
 
 class Outcome(NamedTuple):
-    """The outcome of a step, from the part of its line after the frame."""
+    """The outcome of a step, parsed from the part of its line after the frame."""
 
     #: The kind of the step.
     kind: int
-    #: The interfaces that accepted the frame, and the interfaces that went bus off, as bytes for the columns. Bit i
+    #: The set of interfaces that accepted the frame and the set that went bus off, as bytes for the columns. Bit i
     #: stands for interface i.
     accepted: bytes
     off: bytes
-    #: The number of frames that leave the sender's transmit queue.
+    #: How many frames leave the sender's transmit queue.
     left: int
-    #: The number of items that were handed to sockets, and the sockets in order, as bytes for a column.
+    #: How many items were handed to sockets, and the sockets in order, as bytes for a column.
     handed: int
     sockets: bytes
     #: The time on the wire, if the line reports it.
@@ -46,10 +46,10 @@ class Outcome(NamedTuple):
 
 
 class Outcomes(dict[str, Outcome]):
-    """Maps texts, such as `done 0002 0000; put 1`, to outcomes."""
+    """Maps strings, such as `done 0002 0000; put 1`, to outcomes."""
 
     def __init__(self, sockets: Sequence[int]) -> None:
-        """Starts with no outcomes. `sockets` has the interface of each socket."""
+        """Starts with an empty cache. `sockets` lists the interface of each socket."""
         super().__init__()
         self._sockets = sockets
 
@@ -87,7 +87,7 @@ class Outcomes(dict[str, Outcome]):
         return Outcome(kind, accepted, off, (kind == DONE) + lost, handed, sockets, wire, rare)
 
     def _parts_of(self, parts: Iterable[str], members: int, is_restart: bool) -> Iterator[str]:
-        """Yields the parts that apply to a set of interfaces, in which bit i stands for interface i. A restart has no
+        """Yields the parts that apply to a set of interfaces, in which bit i stands for interface i. A restart takes no
         time on the wire."""
         for part in parts:
             name, *words = part.split(" ")
@@ -103,7 +103,7 @@ class Outcomes(dict[str, Outcome]):
 
 @functools.lru_cache(maxsize=4096)
 def result_of(text: str) -> tuple[int, bytes, bytes]:
-    """Returns the kind of a step, the interfaces that accepted its frame, and those that went bus off."""
+    """Returns the kind of a step, the interfaces that accepted its frame, and the interfaces that went bus off."""
     kind, accepted, off = text.split(" ")
     accepting, going = (array("H", [int(members, 16)]).tobytes() for members in (accepted, off))
     return KIND_NUMBERS[kind], accepting, going
@@ -111,8 +111,8 @@ def result_of(text: str) -> tuple[int, bytes, bytes]:
 
 @functools.lru_cache(maxsize=65536)
 def part_of(part: str) -> tuple[str, Any]:
-    """Returns the name and the content of a part of an outcome. The result is cached because many parts are the
-    same."""
+    """Returns the name and the content of a part of an outcome. The result is cached because many steps have equal
+    parts."""
     name, *words = part.split(" ")
     if name == "put":
         return name, put_of(words)
@@ -126,7 +126,7 @@ def part_of(part: str) -> tuple[str, Any]:
 
 
 def put_of(words: Iterable[str]) -> tuple[bytes, Sequence[tuple[int, str]]]:
-    """Returns the sockets that got items, as bytes of a column, and the error message frames with their places among
+    """Returns the sockets that got items, as bytes for a column, and the error message frames with their indices among
     these items."""
     found = [*map(halves, words)]
     errors = [(place, error) for place, (_, _, error) in enumerate(found) if error]
@@ -134,7 +134,7 @@ def put_of(words: Iterable[str]) -> tuple[bytes, Sequence[tuple[int, str]]]:
 
 
 def column_of(sockets: Iterable[int]) -> bytes:
-    """Returns socket numbers as the bytes of a column."""
+    """Returns socket numbers as bytes for a column."""
     return array("I", sockets).tobytes()
 
 

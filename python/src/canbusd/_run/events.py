@@ -14,18 +14,18 @@ from typing import IO, BinaryIO, Optional
 from canbusd._process.program import ProgramNotFound, find_program
 from canbusd._process.rates import Rates
 
-# The number of bytes for each read. Larger reads are no faster.
+# How many bytes to read at a time. Larger reads are no faster.
 BLOCK = 1 << 17
 # The size of the program's output pipe in bytes.
 AHEAD = 1 << 20
 # The value of F_SETPIPE_SZ in fcntl.h. Python has had a name for it since version 3.10.
 SET_PIPE_SIZE = 1031
-# The time without a line, in milliseconds, after which `doubt` is called.
+# How long to wait for a line, in milliseconds, before `doubt` is called.
 SILENCE = 1000
 
 
 class BadRecord(ValueError):
-    """Raised if a file is not the record of a run. The message has the reason.
+    """Raised if a file is not the record of a run. The message is the reason.
 
     `verdict` is the verdict of `canbusd audit` on the file, such as `line 5: bad line`, or None if the audit was not
     run.
@@ -37,10 +37,11 @@ class BadRecord(ValueError):
 
 
 class Events:
-    """An audit of a record. The caller passes the record, at once or in pieces, or the program reads it from a file.
+    """An audit of a record. Either the caller passes the record, at once or in pieces, or the program reads it from a
+    file.
 
-    With `cut` the record may lack its last line, `end`. With bit rates the lines include the times of attempts on the
-    wire. With `faults`, such as `can0,can1@FILE`, the lines include the rule of that script that gave an attempt its
+    With `cut` the record may lack its last line, `end`. With bit rates, the lines include the times of attempts on the
+    wire. With `faults`, such as `can0,can1@FILE`, the lines include the rule from that script that gave an attempt its
     verdict.
     """
 
@@ -61,10 +62,10 @@ class Events:
         self._input, self._output = self._process.stdin, self._process.stdout
         widen(self._process.stdout)
         if self._input is not None:
-            # A write must not block when the pipe is full: the program may be waiting for its own output to be read.
+            # A write must not block when the pipe is full, because the program may be waiting for this process to read
+            # its output.
             os.set_blocking(self._input.fileno(), False)
-        # The number of lines passed to the program, the number of lines received, and the beginning of an incomplete
-        # line.
+        # How many lines were passed to the program, how many were received, and the beginning of an incomplete line.
         self._handed = self._came = 0
         self._rest = ""
         self.close = weakref.finalize(self, end, self._process)
@@ -83,9 +84,9 @@ class Events:
     def texts(self, text: bytes, is_last: bool = True, doubt: Callable[[], object] = lambda: None) -> Iterator[str]:
         """Yields the event lines for these lines of the record: several at once, without the final LF.
 
-        Each line of the record has an event line, except that the first two lines share one. `end` has one only if
-        `is_last` is true. Raises BadRecord at the first wrong line. The program reports a wrong line only after it has
-        read everything. So `doubt` is called after each second without a line.
+        Each line of the record has an event line, except that the first two lines share one. The line `end` has one
+        only if `is_last` is true. Raises BadRecord at the first wrong line. The program reports a wrong line only after
+        it has read everything, so `doubt` is called after each second without an event line.
         """
         assert self._input is not None
         unwritten = memoryview(text)
@@ -114,19 +115,19 @@ class Events:
                     yield lines
 
     def texts_of_file(self) -> Iterator[str]:
-        """Yields the event lines of the file: several at once, without the final LF."""
+        """Yields the event lines for the file: several at once, without the final LF."""
         while block := read_block(self._output):
             yield from self._whole_lines(block)
         self._check_status()
 
     def _whole_lines(self, block: bytes) -> Iterator[str]:
-        """Yields all complete lines that have been read, as one text, if there are any."""
+        """Yields all complete lines that have been read so far, as one string, if there are any."""
         lines, has_ended, self._rest = f"{self._rest}{block.decode()}".rpartition("\n")
         if has_ended:
             yield lines
 
     def _check_status(self) -> None:
-        """Waits for the end of the program; raises BadRecord if the program refused the record."""
+        """Waits until the program ends. Raises BadRecord if the program refused the record."""
         assert self._process.stderr is not None
         said = self._process.stderr.read().decode(errors="replace")
         status = self._process.wait()
@@ -138,7 +139,7 @@ class Events:
 
 
 def widen(pipe: IO[bytes]) -> None:
-    """Enlarges a pipe if the system allows it, so that the writer need not wait while the reader processes a block."""
+    """Enlarges a pipe if the system allows it, so that the writer does not wait while the reader processes a block."""
     with contextlib.suppress(OSError):
         fcntl.fcntl(pipe, SET_PIPE_SIZE, AHEAD)
 
@@ -153,8 +154,8 @@ def read_block(pipe: IO[bytes]) -> bytes:
 
 
 def write_some(descriptor: int, text: memoryview) -> int:
-    """Writes text to the program and returns the number of bytes written, or all bytes if the program has already ended
-    with an error."""
+    """Writes text to the program and returns how many bytes were written. If the program has already ended with an
+    error, returns the length of the text."""
     try:
         return os.write(descriptor, text)
     except BrokenPipeError:
@@ -172,8 +173,8 @@ def end(process: "subprocess.Popen[bytes]") -> None:
 
 
 def fault_of(said: str) -> BadRecord:
-    """Returns the error that an audit reported. The text has the verdict, then ` /dev/stdin:5: LINE`, and further lines
-    with the reason."""
+    """Returns the exception for an error that an audit reported. The error text is the verdict, then ` /dev/stdin:5:
+    LINE`, and further lines with the reason."""
     verdict, *notes = said.removeprefix("canbusd: ").splitlines() or [""]
     words = [note.strip() for note in notes]
     if words:

@@ -1,4 +1,4 @@
-"""Finds the fault rule that gave each attempt of a run its verdict. The program reports these rules if it gets the
+"""Finds the fault rule that gave each attempt of a run its verdict. The program reports these rules if it is given the
 run's faults."""
 
 import contextlib
@@ -19,13 +19,13 @@ from canbusd.record import Path as AnyPath, Record, check_beginning, check_no_lo
 from canbusd.rules import NAMES, Rule, parse_rule
 
 Found = TypeVar("Found")
-# Longer than any line of faults: a line has at most two lists of 16 interface names, and a few words.
+# More bytes than any line of a faults file has: a line has at most two lists of 16 interface names, and a few words.
 LONGEST_LINE = 4096
-# The endings of file names while a run continues, and after a run was cut off.
+# The endings of file names while a run continues, and after it was cut off.
 GROWING = (".new", ".cut")
-# The program's message if the number of names differs from the number of interfaces of the record's bus.
+# The program's message if the number of names differs from the number of interfaces on the record's bus.
 OTHER_BUS = "names of another bus"
-# Matches the interface names in lines of faults. A file may have a million lines.
+# Matches the interface names in lines of faults. This is a regular expression because a file may have a million lines.
 NAMED = re.compile(rb" (?:from|local (?:stuff|crc|form)) (\S+)")
 JOINED = re.compile(NAMES)
 
@@ -39,9 +39,9 @@ class FaultsFile:
 
     def __init__(self, path: AnyPath, record: Optional[AnyPath] = None, is_beside: bool = False) -> None:
         self.path = os.fspath(path)
-        #: Whether the file is next to the record, where a server writes it.
+        #: Whether the file is next to the record, in the path to which a server writes it.
         self.is_beside = is_beside
-        #: The partial last line, if it was left out.
+        #: The last line if it was incomplete and was therefore left out.
         self.torn = b""
         self._file = open(path, "rb")
         self.record = open(record, "rb") if record is not None and os.path.isfile(record) else None
@@ -61,17 +61,17 @@ class FaultsFile:
 
     @functools.cached_property
     def text(self) -> bytes:
-        """The content of the file. Raises BadRecord if the beginning of the file can't be a line of faults."""
+        """The content of the file. Raises BadRecord if the file begins with something that can't be a line of faults."""
         first = self._file.read(LONGEST_LINE)
         if len(first) == LONGEST_LINE and b"\n" not in first:
             raise BadRecord(f"no line of faults has {LONGEST_LINE:,} bytes, as its first one has", "script line 1")
         return first + self._file.read()
 
     def read(self, by: Callable[[bytes], Found], is_cut: bool) -> Found:
-        """Applies a function to the content of the file and returns the result.
+        """Applies the function `by` to the content of the file and returns the result.
 
-        If the record is cut off, the last line of the faults next to it may be partial. Such a line belongs to no
-        entry, and is left out if the program can't read it.
+        If the record was cut off, the faults file next to it may end with an incomplete line. Such a line belongs to no
+        entry. It is left out if the program can't read it.
         """
         try:
             return by(self.text)
@@ -84,12 +84,12 @@ class FaultsFile:
 
 
 def is_of_faults(fault: BadRecord) -> bool:
-    """Returns whether the error is in the faults, which the program checks first, and not in the record."""
+    """Returns whether the error is in the faults and not in the record. The program checks the faults first."""
     return (fault.verdict or "").startswith(("script line ", "bad bus"))
 
 
 def faults_beside(record: AnyPath) -> Optional[FaultsFile]:
-    """Opens the faults that a server wrote next to this record; returns None if the run had no faults. The file is
+    """Opens the faults file that a server wrote next to this record; returns None if the run had no faults. The file is
     can0.rec.faults for can0.rec, and can0.rec.faults.new for can0.rec.new."""
     path = Path(record)
     stem, ending = (path.stem, path.suffix) if path.suffix in GROWING else (path.name, "")
@@ -98,8 +98,8 @@ def faults_beside(record: AnyPath) -> Optional[FaultsFile]:
 
 
 def with_names(record: Record, faults: FaultsFile) -> Record:
-    """Returns the record with a name for its unnamed interface, if it has exactly one, and if the faults name exactly
-    one interface that the record lacks."""
+    """Returns the record with a name for its unnamed interface, if there is exactly one and if the faults name exactly
+    one interface that the record does not. Otherwise returns the record unchanged."""
     unnamed = [place for place, name in enumerate(record.names) if not is_named(name)]
     if len(unnamed) != 1:
         return record
@@ -112,7 +112,7 @@ def with_names(record: Record, faults: FaultsFile) -> Record:
 
 
 def names_in(faults: bytes) -> set[str]:
-    """Returns the interface names in faults, which may have a million lines. Names in comments do not count."""
+    """Returns the interface names in a faults file, which may have a million lines. Names in comments are ignored."""
     if faults.startswith(b"#") or b"\n#" in faults:
         faults = b"\n".join(line for line in faults.split(b"\n") if not line.startswith(b"#"))
     found = (names.decode(errors="replace") for names in {*NAMED.findall(faults)})
@@ -122,10 +122,10 @@ def names_in(faults: bytes) -> set[str]:
 def read_ruled(
     path: AnyPath, names: Sequence[str], cut: bool, rates: Optional[Rates], faults: FaultsFile
 ) -> tuple[Record, list[str]]:
-    """Returns the record in this file like `read_run`, and its rules like `deciders`. The file is read once, so it may
-    be a pipe.
+    """Returns the record in this file, as `read_run` does, and its rules, as `deciders` does. The file is read once, so
+    it may be a pipe.
 
-    After a BadRecord, `is_of_faults` tells whether the error is in the faults or in the record.
+    After a BadRecord, `is_of_faults` returns whether the error is in the faults or in the record.
     """
     check_no_log(path)
     with faults, contextlib.ExitStack() as stack:
@@ -138,7 +138,7 @@ def read_ruled(
 def ruled_in(
     file: BinaryIO, text: bytes, path: AnyPath, names: Sequence[str], cut: bool, rates: Optional[Rates]
 ) -> tuple[Record, list[str]]:
-    """Returns the record in this file, and its rules if `text` has its faults."""
+    """Returns the record in this file, and the rules of its attempts. `text` is the faults file."""
     taken = TakenRules()
     given = names.split(",") if isinstance(names, str) else names
     with bus_with(given, text) as bus, Events(cut, rates, file, bus) as events:
@@ -154,19 +154,18 @@ def ruled_in(
 
 
 def deciders(record: Record, faults: FaultsFile) -> list[str]:
-    """Returns, for each attempt with a frame, the rule that gave it its verdict, or the empty text if there was no such
-    rule.
+    """Returns, for each attempt with a frame, the rule that gave it its verdict, or the empty string if no rule did.
 
-    The list is empty if no rule gave any verdict. An error in the faults raises BadRecord. If a record is cut off, the
-    last line of the faults next to it may be partial. Such a line belongs to no entry, and is left out if the program
-    can't read it.
+    The list is empty if no rule gave any verdict. An error in the faults raises BadRecord. If the record was cut off,
+    the faults file next to it may end with an incomplete line. Such a line belongs to no entry. It is left out if the
+    program can't read it.
     """
     with faults:
         return faults.read(lambda text: rules_of(record, text, faults), record.is_cut)
 
 
 def rules_of(record: Record, text: bytes, faults: FaultsFile) -> list[str]:
-    """Returns the rules in this text that gave attempts their verdicts, in the same form as `deciders`."""
+    """Returns the rule of each attempt, as `deciders` does. `text` is the content of the faults file."""
     if not text:
         return []
     file = None if record.text else faults.record
@@ -181,17 +180,18 @@ def rules_of(record: Record, text: bytes, faults: FaultsFile) -> list[str]:
 
 @contextlib.contextmanager
 def bus_with(names: Sequence[str], text: bytes) -> Iterator[str]:
-    """Yields the program's argument for a bus with these names and the faults in this text."""
+    """Yields the program's argument for a bus with these interface names and with the faults in `text`."""
     with tempfile.NamedTemporaryFile() as script:
         script.write(text)
         script.flush()
-        # An interface without a name, here called `interface 1`, gets the program's own name for it: spaces become
-        # hyphens.
+        # An interface without a name is called `interface 1` here. The program's own name for it has hyphens instead of
+        # spaces.
         yield f"{','.join(names).replace(' ', '-')}@{script.name}"
 
 
 def unused_rules(names: Sequence[str], faults: FaultsFile) -> list[Rule]:
-    """Returns the rules with a count, such as `next 1 ..`, that gave no attempt a verdict and that no command ended.
+    """Returns the rules with a count, such as `next 1 ..`, that were neither used for an attempt nor ended by a
+    command.
 
     `faults` is the file that a server wrote next to a complete record.
     """
@@ -203,7 +203,7 @@ def unused_rules(names: Sequence[str], faults: FaultsFile) -> list[Rule]:
 
 
 def taken_in(events: Iterable[str]) -> "TakenRules":
-    """Collects the rules in the lines of events."""
+    """Collects the fault rules from event lines."""
     taken = TakenRules()
     for _ in taken.without(events):
         pass
@@ -211,24 +211,24 @@ def taken_in(events: Iterable[str]) -> "TakenRules":
 
 
 class TakenRules:
-    """Collects the fault rules of a bus from the lines of events, by the numbers that the rules have there."""
+    """Collects the fault rules of a bus from event lines, by the rule numbers in these lines."""
 
     def __init__(self) -> None:
-        # The rules in the program's words. `_first` is the number of the first rule that no command has ended.
+        # The rules as the program prints them. `_first` is the number of the first rule that no command has ended.
         self._words: dict[int, str] = {}
         self._first = 1
-        # For each attempt with a frame, the number of its rule; 0 if no rule gave its verdict.
+        # For each attempt with a frame, the number of the rule that gave its verdict, or 0 if no rule did.
         self._numbers: list[int] = []
 
     def without(self, events: Iterable[str]) -> Iterator[str]:
-        """Yields the lines that the events would have without faults, and collects the rules in the lines."""
+        """Yields the event lines as they would be without faults, and collects the rules from the lines."""
         for text in events:
             lines = "\n".join(filter(None, map(self._take, text.split("\n"))))
             if lines:
                 yield lines
 
     def _take(self, line: str) -> str:
-        """Collects the rule in a line, and returns the rest of the line."""
+        """Collects the rule in a line, and returns the line without the rule."""
         if line.startswith("attempt "):
             line, _, number = line.partition("; rule ")
             if " = tried " in line:
@@ -244,12 +244,12 @@ class TakenRules:
         return line
 
     def deciders(self) -> list[str]:
-        """Returns the rule of each attempt, like the module's function `deciders`."""
+        """Returns the rule of each attempt, as the module's function `deciders` does."""
         texts = {number: str(parse_rule(self._words[number])) for number in {*self._numbers} - {0}}
         return [texts.get(number, "") for number in self._numbers] if texts else []
 
     def unused(self) -> list[Rule]:
-        """Returns the rules with a count that gave no attempt a verdict and that no command ended."""
+        """Returns the rules with a count that were neither used for an attempt nor ended by a command."""
         left = {*range(self._first, len(self._words) + 1)}.difference(self._numbers)
         rules = (parse_rule(self._words[number]) for number in sorted(left))
         return [rule for rule in rules if rule.count is not None]

@@ -1,4 +1,4 @@
-"""Reads logs and records while a server writes them. Each line is read only once."""
+"""Reads logs and records while a server writes them. Every line is read only once."""
 
 import contextlib
 import threading
@@ -17,36 +17,36 @@ if TYPE_CHECKING:
 
 
 def left_by(record: Path, when: str) -> Path:
-    """Returns the current path of a record that will have the given path when it is complete. While a `live` run
+    """Returns the current path of a record that will have the path `record` when it is complete. While a `live` run
     continues, or after it was killed, can0.rec is still called can0.rec.new."""
     growing = record.with_name(f"{record.name}.new")
     return growing if when == "live" and growing.exists() else record
 
 
 class GrowingFile:
-    """A file to which another process appends lines. Of the given paths, it is the first one that exists."""
+    """A file to which another process appends lines: the first of the given paths that exists."""
 
     def __init__(self, *paths: Path) -> None:
         self._paths = paths
-        # The offset of the first line that was not taken.
+        # The offset of the first line that was not returned yet.
         self._place = 0
 
     def text(self, first: int = 0) -> bytes:
-        """Returns the complete lines from this offset on."""
+        """Returns the complete lines starting at offset `first`."""
         with self._opened() as file:
             file.seek(first)
             whole, lf, _ = file.read().rpartition(b"\n")
         return whole + lf
 
     def take(self) -> bytes:
-        """Takes the complete lines that were not taken before."""
+        """Returns the complete lines that were not returned before."""
         text = self.text(self._place)
         self._place += len(text)
         return text
 
     def lines(self) -> Iterator[str]:
-        """Yields the complete lines that were not taken before, without LF. A line counts as taken when the caller asks
-        for the next one."""
+        """Yields the complete lines that were not returned before, without LF. A line counts as returned when the
+        caller requests the next one."""
         for line in self.text(self._place).splitlines(True):
             yield line[:-1].decode(errors="replace")
             self._place += len(line)
@@ -75,11 +75,11 @@ class LiveLog:
 
 
 class LiveRecord:
-    """A record that a running server writes, for a bus whose interfaces have these names."""
+    """A record that a running server writes, for a bus with these interface names."""
 
     def __init__(self, path: Path, names: Sequence[str]) -> None:
         self._file, self._names = GrowingFile(path.with_name(f"{path.name}.new"), path), tuple(names)
-        # The audit of the lines taken so far, and the run that the audit describes.
+        # The audit of the lines read so far, and the run that the audit describes.
         self._events: Optional[Events] = None
         self._run = Replay()
         self._attempts: list[Attempt] = []
@@ -87,11 +87,11 @@ class LiveRecord:
         self._lock = threading.Lock()
 
     def record(self, rates: Optional[Rates] = None) -> Record:
-        """Returns the record so far; if bit rates are given, with the times on the wire."""
+        """Returns the record so far. If bit rates are given, the record includes the times on the wire."""
         return parse_record(self._file.text(), names=self._names, cut=True, rates=rates)
 
     def attempts(self) -> list[Attempt]:
-        """Returns the attempts that the server has written so far; reads only the entries since the last call."""
+        """Returns the attempts that the server has written so far. Each call reads only the new entries."""
         with self._lock:
             if self._fault is not None:
                 raise self._fault
@@ -101,12 +101,12 @@ class LiveRecord:
                 self._fault = fault
                 raise
             if self._run.bus is None:
-                # This call raises an error that explains why there is no record yet.
+                # Raises an error that explains why there is no record yet.
                 parse_record(self._file.text(), cut=True)
             return list(self._attempts)
 
     def _read(self) -> None:
-        """Reads the new lines and their effects. After a wrong line or entry each call raises the same error."""
+        """Reads the new lines and their effects. After a wrong line or entry, every call raises the same error."""
         text = self._file.take()
         if not text or self._run.is_whole:
             return

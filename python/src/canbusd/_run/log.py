@@ -1,4 +1,4 @@
-"""Reads logs in candump's format, as a server and a bench write them next to their records."""
+"""Reads logs in candump's format. Servers and benches write such logs next to their records."""
 
 import itertools
 import os
@@ -16,16 +16,16 @@ if TYPE_CHECKING:
 Path = Union[str, "os.PathLike[str]"]
 
 LOG_LINE = re.compile(r"\(([0-9]+\.[0-9]{6})\) (\S+) (\S+)")
-#: Longer than any line of a log, in any format.
+#: More characters than any line of a log has, in any format.
 MOST_LINE = 16_384
 
 
 class LongLine(ValueError):
-    """Raised if a line is too long for a log. The message has the place of the line."""
+    """Raised if a line is too long for a log. The message names the file and the line."""
 
 
 def lines_of(file: "IO[AnyStr]", path: Path) -> "Iterator[AnyStr]":
-    """Yields the lines of a log. Raises LongLine at a line that is too long."""
+    """Yields the lines of a log. Raises LongLine if a line is too long."""
     for number in itertools.count(1):
         line = file.readline(MOST_LINE)
         if not line:
@@ -46,7 +46,7 @@ def read_log(path: Path) -> "list[Message]":
 
 
 def message_of(line: str, path: Path, number: int) -> "Message":
-    """Returns the message in a line of a log, without its LF. Errors name the log and the line."""
+    """Returns the message in a line of a log, without its LF. Error messages name the log and the line."""
     import canbusd._python_can  # noqa: F401  it says what is missing
 
     words = LOG_LINE.fullmatch(line)
@@ -60,7 +60,7 @@ def log_beside(path: Path) -> Optional[str]:
     can0.rec and can0.rec.new this is can0.log."""
     record = os.fspath(path).removesuffix(".new").removesuffix(".cut")
     folder, name = os.path.split(record)
-    # For the bus `...` the record is `....rec`, in which os.path.splitext finds no ending.
+    # For the bus `...` the record is `....rec`, and os.path.splitext finds no extension in this name.
     log = os.path.join(folder, f"{name.rpartition('.')[0] or name}.log")
     return log if log != os.fspath(path) and os.path.isfile(log) else None
 
@@ -69,13 +69,14 @@ def names_in_log(steps: Steps, log: Path) -> dict[int, str]:
     """Maps the interfaces that won an attempt to their names in the log. The map is empty if the log belongs to another
     run.
 
-    A log has a line for each attempt with a frame: `(MOMENT) NAME FRAME`, with the name of the winner.
+    A log contains a line `(MOMENT) NAME FRAME` for each attempt with a frame. NAME is the interface that won the
+    attempt.
     """
     columns = zip(steps.kinds, steps.moments, steps.ifaces)
     tried = ((moment_of(moment), winner) for kind, moment, winner in columns if kind < RESTART)
     names: dict[int, str] = {}
     with open(log, encoding="ascii", errors="replace") as file:
-        # If the run was killed, its last line may be partial.
+        # If the run was killed, its last line may be incomplete.
         whole = (line for line in iter(lambda: file.readline(MOST_LINE), "") if line.endswith("\n"))
         for line, (moment, winner) in zip(whole, tried):
             words = line.split()

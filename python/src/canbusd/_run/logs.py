@@ -1,5 +1,5 @@
-"""Reads and writes logs of other tools: candump logs, pcapng, and formats that python-can recognises by the ending of
-the file, such as ASC and BLF."""
+"""Reads and writes logs of other tools: candump logs, pcapng, and formats that python-can recognises by the file name
+extension, such as ASC and BLF."""
 
 import collections
 import dataclasses
@@ -19,36 +19,36 @@ from canbusd._text import shown
 from canbusd._whole_file import Path, replaced
 from canbusd.frames import BadFrame, Frame, frame_like, log_line
 
-#: The endings of files that python-can reads, with or without `.gz`. Any other file is a candump log.
+#: The file name extensions that python-can reads, with or without `.gz`. Any other file is a candump log.
 ENDINGS = (".asc", ".blf", ".csv", ".db", ".mf4", ".trc")
-#: The endings of text files.
+#: The extensions of text files.
 TEXTS = (".asc", ".csv", ".trc")
-# The ending of captures for Wireshark.
+# The extension of captures for Wireshark.
 PCAPNG = ".pcapng"
-#: The endings of files that this module can write. The other formats of python-can lose frames, flags or channels.
+#: The extensions of files that this module can write. The other formats of python-can lose frames, flags or channels.
 WRITTEN = (".log", ".asc", ".blf", PCAPNG)
 # The formats that have channel numbers instead of interface names.
 NUMBERED = (".asc", ".blf")
 # python-can and later versions of candump write the direction after the frame.
 LINE = re.compile(r"\(([0-9]{1,10}\.[0-9]{6})\) +(\S+) +(\S+)(?: +([RT]))?")
-# Channel numbers. python-can counts channels from 0, but its ASC and BLF files count from 1.
+# Matches channel numbers. python-can counts channels from 0, but its ASC and BLF files count from 1.
 NUMBER = re.compile("[0-9]+")
 # The first bytes of a record.
 RECORD = "canbus record "
 
 
 class Entry(NamedTuple):
-    """A frame of a log with its time, and with its interface or channel."""
+    """An entry of a log: a frame with its timestamp, and its interface or channel."""
 
     channel: str
     frame: Frame
 
 
 def read_entries(path: Path, names: Sequence[str] = ()) -> Iterator[Entry]:
-    """Yields the entries of a log. The ending of the file determines the format.
+    """Yields the entries of a log. The file name extension determines the format.
 
-    In a log with channel numbers, the channels get the names in `names`, or can0, can1 and so on. Raises ValueError,
-    which names the file, and for candump logs also the line.
+    In a log with channel numbers, the channels get the names in `names`, or can0, can1 and so on. Raises ValueError.
+    Its message names the file and, for candump logs, the line.
     """
     if os.fspath(path).lower().endswith(PCAPNG):
         raise ValueError(f"{os.fspath(path)}: a capture for Wireshark is only written, not read")
@@ -67,7 +67,7 @@ def read_entries(path: Path, names: Sequence[str] = ()) -> Iterator[Entry]:
 
 
 def is_candump(path: Path) -> bool:
-    """Returns whether this is a candump log, by its ending."""
+    """Returns whether the file is a candump log, judging by its extension."""
     return os.path.splitext(os.fspath(path).lower().removesuffix(".gz"))[1] not in ENDINGS
 
 
@@ -83,7 +83,7 @@ def candump_entries(path: Path) -> Iterator[Entry]:
 
 
 def entry_of(text: str, place: str) -> Entry:
-    """Returns the entry in this line. `place` describes the line in errors."""
+    """Returns the entry in this line. `place` describes the line in error messages."""
     words = LINE.fullmatch(text)
     if not words:
         raise ValueError(f"{place}: not `(SECONDS.MICROS) INTERFACE FRAME`: {shown(text)}")
@@ -95,7 +95,7 @@ def entry_of(text: str, place: str) -> Entry:
 
 
 def check_lines(path: Path) -> None:
-    """Checks the length of the lines of a text file, because python-can would keep a long line in memory. A fifo is not
+    """Checks the length of the lines in a text file, because python-can would keep a long line in memory. A fifo is not
     checked, because it can be read only once."""
     name = os.fspath(path).lower()
     is_text = os.path.splitext(name.removesuffix(".gz"))[1] in TEXTS
@@ -106,7 +106,7 @@ def check_lines(path: Path) -> None:
 
 
 def python_can_messages(path: Path) -> "Iterator[Any]":
-    """Yields the messages of a log that python-can reads."""
+    """Yields the messages of a log in one of python-can's formats."""
     import canbusd._python_can  # noqa: F401  it says what is missing
 
     can_io: Any = importlib.import_module("can.io")
@@ -118,8 +118,7 @@ def python_can_messages(path: Path) -> "Iterator[Any]":
 
 
 def name_of(channel: object, names: Sequence[str]) -> str:
-    """Returns a channel's name. If the channel is a number or missing, returns the name of the interface that it stands
-    for."""
+    """Returns a channel's name. If the channel is a number or missing, returns the name of the corresponding interface."""
     text = str(channel)
     if channel is not None and not NUMBER.fullmatch(text):
         return text
@@ -128,12 +127,12 @@ def name_of(channel: object, names: Sequence[str]) -> str:
 
 
 def write_entries(path: Path, entries: Iterable[Entry], names: Sequence[str] = ()) -> tuple[int, list[str]]:
-    """Writes a log, and returns the number of its frames and its interfaces. The ending of the file determines the
-    format.
+    """Writes a log, and returns how many frames it has and the list of its interfaces. The file name extension
+    determines the format.
 
-    In a format with channel numbers, the interfaces in `names` have the first numbers. Other interfaces follow in the
+    In a format with channel numbers, the interfaces in `names` get the first numbers. Other interfaces follow in the
     order of their first frames. The new file replaces the old one after all frames are written. Raises ValueError for
-    an unknown ending.
+    an unknown extension.
     """
     ending = os.path.splitext(os.fspath(path))[1].lower()
     if ending not in WRITTEN:
@@ -148,7 +147,7 @@ def write_entries(path: Path, entries: Iterable[Entry], names: Sequence[str] = (
 
 
 def is_numbered(path: Path) -> bool:
-    """Returns whether a log with this path will have channel numbers, which depends on its ending."""
+    """Returns whether a log with this path will have channel numbers, which depends on its extension."""
     return os.fspath(path).lower().endswith(NUMBERED)
 
 
@@ -162,19 +161,19 @@ def write_candump(file: BinaryIO, entries: Iterable[Entry]) -> int:
 
 
 def write_pcapng(file: BinaryIO, entries: Iterable[Entry], known: Sequence[str]) -> int:
-    """Writes a capture for Wireshark that begins with the known interfaces. Returns the number of its frames."""
+    """Writes a capture for Wireshark that begins with the interfaces in `known`. Returns the number of its frames."""
     capture = Capture(file, [(name, 0) for name in known])
     count = 0
     for name, frame in entries:
-        # If a log has directions, it shows sent frames only.
+        # Only the direction of sent frames is known: frames of a log without directions count as received.
         capture.write([(name, frame, 0 if frame.is_rx else OUTBOUND)])
         count += 1
     return count
 
 
 def write_by_python_can(file: BinaryIO, ending: str, entries: Iterable[Entry], known: list[str]) -> int:
-    """Writes a log with channel numbers, and returns the number of its frames. The numbers are places in this list of
-    interfaces, to which new interfaces are added."""
+    """Writes a log with channel numbers, and returns the number of its frames. The channel numbers are indices into
+    `known`, the list of interfaces. New interfaces are appended to it."""
     import canbusd._python_can  # noqa: F401  it says what is missing
 
     can_io: Any = importlib.import_module("can.io")
@@ -185,7 +184,7 @@ def write_by_python_can(file: BinaryIO, ending: str, entries: Iterable[Entry], k
         io.TextIOWrapper(file, encoding="utf-8")
     ) as logger:
         if first is not None and hasattr(logger, "start_timestamp"):
-            # The date has a precision of milliseconds, and the times in the log are relative to it.
+            # The start date has a precision of milliseconds, and the timestamps in the log are relative to it.
             logger.start_timestamp = int(first.frame.timestamp * 1000) / 1000
         for name, frame in itertools.chain([] if first is None else [first], rest):
             if name not in known:

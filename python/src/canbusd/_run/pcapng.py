@@ -27,19 +27,19 @@ Packet = tuple[str, Frame, int]
 
 
 class Capture:
-    """A capture that is written packet by packet; each write contains complete blocks."""
+    """A capture that is written packet by packet. Every write contains complete blocks."""
 
     def __init__(self, file: BinaryIO, interfaces: Iterable[tuple[str, int]] = ()) -> None:
-        """Writes the beginning of a capture with these interfaces. Each comes with its bit rate, or 0 if it has
-        none."""
+        """Writes the start of a capture with these interfaces. Each interface is given with its bit rate, or with 0 if
+        it has none."""
         self._file = file
         self._numbers: dict[str, int] = {}
         begin = block(SECTION, struct.pack("<IHHq", 0x1A2B3C4D, 1, 0, -1), option(APPLICATION, b"canbusd"))
         file.write(begin + b"".join(self._interface(name, bitrate) for name, bitrate in interfaces))
 
     def write(self, packets: Iterable[Packet]) -> None:
-        """Writes frames, each with its interface and its direction. An interface that is not in the capture yet is
-        added."""
+        """Writes frames, each with its interface and its direction. An interface that is not yet in the capture is
+        added to it."""
         blocks = []
         for name, frame, way in packets:
             if name not in self._numbers:
@@ -56,7 +56,7 @@ class Capture:
 
 
 def padded(data: bytes) -> bytes:
-    """Returns bytes padded to a multiple of 4."""
+    """Returns the bytes padded to a multiple of 4."""
     return data + bytes(-len(data) % 4)
 
 
@@ -73,8 +73,8 @@ def block(kind: int, body: bytes, *options: bytes) -> bytes:
 
 
 def socketcan(frame: Frame) -> bytes:
-    """Returns a frame in the form of the link type: the identifier in network byte order, the length, the flags and the
-    data."""
+    """Returns a frame in the format of the link type: the identifier in network byte order, the length, the flags and
+    the data."""
     identifier = frame.arbitration_id
     identifier |= ERROR if frame.is_error_frame else EXTENDED if frame.is_extended_id else 0
     identifier |= REMOTE if frame.is_remote_frame else 0
@@ -83,7 +83,7 @@ def socketcan(frame: Frame) -> bytes:
 
 
 def packet(number: int, frame: Frame, way: int) -> bytes:
-    """Returns the block for a frame at the interface with this number."""
+    """Returns the block for a frame at the interface with this index."""
     data, moment = socketcan(frame), round(frame.timestamp * 1e6)
     head = struct.pack("<IIIII", number, moment >> 32, moment & 0xFFFFFFFF, len(data), len(data))
     return block(PACKET, head + padded(data), *([option(FLAGS, struct.pack("<I", way))] if way else []))

@@ -1,11 +1,11 @@
-"""The parts of a bus after all events of its run: its configuration, its interfaces and its sockets."""
+"""The parts of a bus at the end of its run: its configuration, its interfaces and its sockets."""
 
 from array import array
 from dataclasses import dataclass
 from typing import Optional
 
-#: The number of bits for one count of waiting frames. One number holds the counts of all interfaces, with interface 0
-#: in the lowest bits. Columns use the same size for a count.
+#: The size in bits of a count of waiting frames. One integer combines the counts of all interfaces, with interface 0 in
+#: the lowest bits. Columns use the same size for a count.
 WAITING_BITS = 16
 MOST_WAITING = (1 << WAITING_BITS) - 1
 #: The lowest error counts at which an interface is bus off, error passive, and in the error warning state.
@@ -23,7 +23,7 @@ class Bus:
 
     #: The number of interfaces.
     ifaces: int
-    #: Whether a silent node acknowledges each frame.
+    #: Whether a silent node acknowledges every frame.
     always: bool
     #: The set of interfaces that report faults: bit i stands for interface i.
     reporting: int
@@ -36,7 +36,7 @@ class Bus:
 def bus_of(line: str) -> Bus:
     """Parses the second line of a record."""
     _, ifaces, acknowledged, reporting, tx_capacity, limit, *restart = line.split(" ")
-    # In version 1 the line lacks the last number.
+    # Version 1 lacks the last number in this line.
     auto_restart = int(restart[0]) if restart else 0
     return Bus(int(ifaces), acknowledged == "always", int(reporting, 16), int(tx_capacity), int(limit), auto_restart)
 
@@ -46,18 +46,19 @@ class Socket:
 
     def __init__(self, number: int, iface: int, capacity: int) -> None:
         self.number, self.iface, self.capacity = number, iface, capacity
-        #: The last step before the socket was closed, or -1 if there was no earlier step. None if the socket is open.
+        #: The last step before the socket was closed, or -1 if it was closed before the first step. None if the socket
+        #: is open.
         self.closed_after: Optional[int] = None
-        # Records when the socket began or stopped receiving error message frames: the number of steps before each
-        # change, and the new setting.
+        # When the socket started or stopped receiving error message frames: the number of steps before each change, and
+        # whether it receives them after the change.
         self._takes_errors = [(0, False)]
-        #: The number of items for the socket, and how many of these were dropped because its queue was full.
+        #: The number of items for the socket, and how many of them were dropped because its queue was full.
         self.handed = self.dropped = 0
-        #: For each taken item, the number of steps before it was taken.
+        #: For each item that was taken, how many steps preceded this.
         self.taken_after = array("I")
 
     def set_errors(self, steps: int, is_taken: bool) -> None:
-        """Records that the socket begins or stops receiving error message frames after this many steps."""
+        """Records that the socket starts or stops receiving error message frames after this many steps."""
         self._takes_errors.append((steps, is_taken))
 
     def takes_errors(self, step: int) -> bool:
@@ -66,12 +67,12 @@ class Socket:
 
     @property
     def queued(self) -> int:
-        """The number of items that entered the receive queue."""
+        """The number of items that were added to the receive queue."""
         return self.handed - self.dropped
 
     @property
     def taken(self) -> int:
-        """The number of items that were taken."""
+        """The number of items that were taken from the receive queue."""
         return len(self.taken_after)
 
     @property
@@ -85,14 +86,14 @@ class Interface:
 
     def __init__(self, number: int) -> None:
         self.number = number
-        #: The increment for one frame that waits at this interface, in the number that combines the counts of all
+        #: The increment for one frame that waits at this interface, in the integer that combines the counts of all
         #: interfaces.
         self.unit = 1 << WAITING_BITS * number
         self.tec = self.rec = 0
         self.is_down = False
-        #: For each waiting frame, the line of its send.
+        #: The event lines of the sends whose frames are waiting.
         self.queue: list[str] = []
-        #: The number of frames that left the queue, and how many of these were removed because the interface went bus
+        #: The number of frames that left the queue, and how many of them were removed because the interface went bus
         #: off or down.
         self.gone = self.lost = 0
         #: The number of sends that were refused because the queue was full.
@@ -110,12 +111,12 @@ class Interface:
 
     @property
     def sent(self) -> int:
-        """The number of frames that entered the queue."""
+        """The number of frames that were added to the queue."""
         return self.gone + len(self.queue)
 
     def leave(self, waiting: int) -> None:
-        """Removes frames from the front of the queue. `waiting` combines the new counts of waiting frames of all
-        interfaces."""
+        """Removes frames from the front of the queue. `waiting` combines the counts of the frames that still wait at
+        each interface."""
         left = len(self.queue) - (waiting >> WAITING_BITS * self.number & MOST_WAITING)
         del self.queue[:left]
         self.gone += left
@@ -126,5 +127,5 @@ class Interface:
 
 
 def frame_in(line: str) -> str:
-    """Returns the frame in the line of a send."""
+    """Returns the frame in the event line of a send."""
     return line.split(" ", 3)[2]

@@ -1,7 +1,7 @@
 """Computes when the attempts of a run occupy the wire, on a bus with bit rates, and the resulting bus load.
 
 The timestamp of an attempt is the end of its frame, rounded down to microseconds, so the true end is up to 999
-nanoseconds later. For each attempt in turn, this module takes the earliest possible end. So rounding errors do not add
+nanoseconds later. For each attempt in turn, this module uses the earliest possible end. So rounding errors do not add
 up, and attempts overlap only if they overlap for all possible ends.
 """
 
@@ -11,7 +11,7 @@ from typing import NamedTuple
 from canbusd._run.steps import RESTART, moment_of
 from canbusd.replay import Replay
 
-# A frame ends at most this many nanoseconds after its timestamp.
+# The frame of an attempt ends at most this many nanoseconds after the attempt's timestamp.
 MOST_LATER = 999
 # The largest possible timestamp in microseconds. The clock of a bus stops at this time.
 LAST_MOMENT = 9999999999999999
@@ -20,7 +20,7 @@ LAST_MOMENT = 9999999999999999
 class Slot(NamedTuple):
     """The time during which an attempt occupies the wire, in nanoseconds."""
 
-    #: The number of the attempt's step in the replay.
+    #: The index of the attempt's step in the replay.
     step: int
     #: The time at which the frame starts.
     begin: int
@@ -31,19 +31,20 @@ class Slot(NamedTuple):
 
 
 class Load(NamedTuple):
-    """How long the wire is busy between the start of the first attempt and the end of the last one, in nanoseconds."""
+    """How long the wire is busy, and the whole time from the start of the first attempt to the end of the last one, in
+    nanoseconds."""
 
     busy: int
     whole: int
 
     @property
     def share(self) -> float:
-        """The fraction of the time in which the wire is busy. It exceeds 1 if attempts overlap."""
+        """The fraction of the time during which the wire is busy. It exceeds 1 if attempts overlap."""
         return self.busy / self.whole if self.whole else 0.0
 
 
 def slots_of(run: Replay) -> list[Slot]:
-    """Returns the slots of the attempts with a frame. The run must have been read with its bit rates."""
+    """Returns the slots of the attempts with a frame. The run must have been read with the bit rates of its bus."""
     slots: list[Slot] = []
     over, steps = 0, run.steps
     for place, (kind, moment, frame, busy) in enumerate(
@@ -61,7 +62,7 @@ def slots_of(run: Replay) -> list[Slot]:
 
 
 def load_of(slots: Sequence[Slot]) -> Load:
-    """Returns the bus load from these attempts."""
+    """Returns the bus load caused by these attempts."""
     if not slots:
         return Load(0, 0)
     whole = max(slot.over for slot in slots) - min(slot.begin for slot in slots)
@@ -80,7 +81,7 @@ def overlaps_of(run: Replay, slots: Iterable[Slot]) -> list[str]:
 
 
 def load_words(load: Load) -> str:
-    """Returns the bus load in words."""
+    """Describes the bus load in words."""
     if not load.whole:
         return "load 0 %: no frame was tried"
     return (

@@ -17,11 +17,11 @@ from canbusd.frames import EXTENDED, REMOTE, is_fd
 if TYPE_CHECKING:
     from canbusd._run.chunks import Chunk
 
-#: The kinds of steps, in the order of their numbers in columns and on pages. Kinds before `restart` are attempts, and
+#: The kinds of steps, in the order of their codes in columns and on pages. Kinds before `restart` are attempts, and
 #: `idle` occurs only on pages.
 KINDS = (*OUTCOMES, "restart", "down", "idle")
 DONE, LASTBIT, DESTROYED, NOACK, RESTART, DOWN, IDLE = range(7)
-#: The outcomes of items, in the order of their numbers. A `waiting` item was still in its queue at the end of the run,
+#: The outcomes of items, in the order of their codes. A `waiting` item was still in its queue at the end of the run,
 #: and an `unread` item was in the queue when its socket was closed.
 FATES = ("taken", "waiting", "unread", "dropped")
 TAKEN, WAITING, UNREAD, DROPPED = range(4)
@@ -34,7 +34,7 @@ Counts = tuple[int, int]
 
 
 class Places(defaultdict[T, int]):
-    """Maps values to their places. A new value gets the next place."""
+    """Maps values to indices. A new value gets the next index."""
 
     def __init__(self, *values: T) -> None:
         super().__init__(itertools.count(len(values)).__next__, zip(values, range(len(values))))
@@ -42,18 +42,18 @@ class Places(defaultdict[T, int]):
 
     @property
     def all(self) -> list[T]:
-        """The values in the order of their places."""
+        """The values in the order of their indices."""
         fresh = itertools.islice(reversed(self), len(self) - len(self._all))
         self._all += [*fresh][::-1]
         return self._all
 
     def places_of(self, values: Iterable[T]) -> list[int]:
-        """Returns the places of these values."""
+        """Returns the indices of these values."""
         return [*map(self.__getitem__, values)]
 
 
 class WireFrame:
-    """A data, remote or FD frame in the record's spelling, with the fields that arbitration and filters use."""
+    """A data, remote or FD frame as it is written in the record, with the fields that arbitration and filters use."""
 
     __slots__ = ("text", "word", "bits", "is_fd")
 
@@ -68,8 +68,8 @@ class WireFrame:
 
 @functools.lru_cache(maxsize=4096)
 def arbitration_bits(identifier: str, rtr: str) -> str:
-    """Returns the bits that arbitration compares (Bosch CAN 2.0), with blanks between fields at the same places in all
-    frames.
+    """Returns the bits that arbitration compares (Bosch CAN 2.0). Blanks separate the fields at the same positions in
+    all frames.
 
     An FD frame has the same bits as a data frame.
     """
@@ -82,7 +82,7 @@ def arbitration_bits(identifier: str, rtr: str) -> str:
 
 @dataclass
 class Step:
-    """An attempt with a frame, a restart, or an interface that goes down. Interfaces are given by number.
+    """An attempt with a frame, a restart, or an interface that goes down. Interfaces are given by their numbers.
 
     An attempt that restarts interfaces is followed by a step for each of them, with the same entry.
     """
@@ -108,9 +108,9 @@ class Step:
     kind: str
     entry: int
     moment: str
-    #: The winner, or the interface that was restarted or went down.
+    #: The interface that won, was restarted or went down.
     iface: int
-    #: The number of the attempt. For a restart or a down it is the number of the next attempt.
+    #: The number of the attempt. For a step that is not an attempt, this is the number of the next attempt.
     attempt: int
     number: int
     text: str
@@ -124,16 +124,17 @@ class Step:
     counts: Sequence[Counts]
     #: The number of waiting frames at each interface before the step.
     waiting: Sequence[int]
-    #: The number of idle attempts since the previous step. An attempt that restarts interfaces counts for its first
+    #: The number of idle attempts since the previous step. An attempt that restarts interfaces is counted at the first
     #: restart.
     idle: int
 
 
 class Steps(Sequence[Step]):
-    """The steps of a run. A column has one number for each step, and Step objects are created on demand."""
+    """The steps of a run as columns. Most columns have one number for each step, and Step objects are created on
+    demand."""
 
     def __init__(self, texts: Places[str], ifaces: Sequence[Interface]) -> None:
-        # The texts of frames and verdicts. The columns refer to them by place.
+        # The strings of frames and verdicts. The columns refer to them by index.
         self.texts = texts
         self.verdict_texts: Places[str] = Places()
         self._all_ifaces = ifaces
@@ -142,27 +143,27 @@ class Steps(Sequence[Step]):
         self.moments = array("Q")
         self.attempts, self.numbers, self.idle = array("I"), array("I"), array("I")
         self.frames, self.verdicts = array("I"), array("I")
-        #: For each step, the values of all interfaces in turn: the number of waiting frames before the step, and both
-        #: error counts after it.
+        #: For each step, the values of all interfaces one after another: the number of waiting frames before the step,
+        #: and both error counts after it.
         self.waiting, self.counts = array("H"), array("H")
         #: The steps that changed error counts.
         self.changed = array("I")
         #: Sets of interfaces: bit i stands for interface i.
         self.accepted, self.off, self.hit = array("H"), array("H"), array("H")
         #: Maps a step to the frames that were removed from a transmit queue because the interface went bus off or down.
-        #: Each frame comes with its number.
+        #: Each frame is given with its number.
         self.lost: dict[int, list[tuple[int, str]]] = {}
         #: The set of interfaces that are down after each step.
         self.down = array("H")
         #: `frame_nanos` is how long the frame takes on the wire, and `busy_nanos` is the time until the next attempt
-        #: may begin, both in nanoseconds. `nominal_bits` and `fast_bits` are the numbers of the frame's bits at the
-        #: nominal bit rate and the data bit rate. All are 0 if the line of the event lacks them.
+        #: may begin, both in nanoseconds. `nominal_bits` and `fast_bits` are how many of the frame's bits are sent at
+        #: the nominal bit rate and at the data bit rate. All are 0 if the event line lacks them.
         self.frame_nanos, self.busy_nanos = array("I"), array("I")
         self.nominal_bits, self.fast_bits = array("H"), array("H")
         #: The number of attempts.
         self.tried = 0
-        # For each interface the steps in which it tried or lost a frame, and the number of steps that were sorted so
-        # far.
+        # For each interface, the steps in which it tried to send or lost a frame. `_sorted` is the number of steps
+        # already in these lists.
         self._tries: "list[array[int]]" = []
         self._sorted = 0
 
@@ -170,8 +171,8 @@ class Steps(Sequence[Step]):
         return len(self.kinds)
 
     def extend(self, chunk: "Chunk", first_entry: int, waiting: "array[int]") -> None:
-        """Adds the steps of a chunk. `first_entry` is the number of its first entry, and `waiting` has the waiting
-        frames before each step."""
+        """Adds the steps of a chunk. `first_entry` is the index of the chunk's first entry, and `waiting` contains the
+        number of waiting frames before each step."""
         first = len(self)
         self.kinds += chunk.kinds
         self.ifaces += chunk.ifaces
@@ -193,13 +194,14 @@ class Steps(Sequence[Step]):
             self.note(column)
 
     def set_down(self, place: int, members: int) -> None:
-        """Sets the interfaces that are down from a step on. The step is not added yet, and calls are in the order of
+        """Sets which interfaces are down starting with a step, before that step is added. Calls must be in the order of
         steps."""
         self._go_on(self.down, place)
         self.down.append(members)
 
     def _numbered(self, kinds: "array[int]") -> Iterable[int]:
-        """Returns the attempt number of each of these steps. A restart or a down has the number of the next attempt."""
+        """Returns the attempt number of each of these steps. A step that is not an attempt has the number of the next
+        attempt."""
         first = self.tried
         self.tried += len(kinds) - kinds.count(RESTART) - kinds.count(DOWN)
         if self.tried - first == len(kinds):
@@ -207,14 +209,14 @@ class Steps(Sequence[Step]):
         return itertools.accumulate(map(RESTART.__gt__, kinds[:-1]), initial=first)
 
     def note(self, column: "array[int]", numbers: Iterable[tuple[int, int]] = ()) -> None:
-        """Extends a column with zeros to the number of steps, and then stores these numbers at their steps."""
+        """Extends a column with zeros to the number of steps, and then stores these numbers at the given steps."""
         column.frombytes(bytes(column.itemsize * (len(self) - len(column))))
         for step, number in numbers:
             column[step] = number
 
     @staticmethod
     def _go_on(column: "array[int]", length: int) -> None:
-        """Extends a column to this length by repeating its last number."""
+        """Extends a column to this length by repeating the last number."""
         column.extend((column[-1:] or array(column.typecode, [0])) * (length - len(column)))
 
     def _count(self, chunk: "Chunk", first: int) -> None:
@@ -260,15 +262,15 @@ class Steps(Sequence[Step]):
         )
 
     def place_of(self, attempt: Optional[int]) -> Optional[int]:
-        """Returns the place of this attempt among the steps, or None if no step is this attempt."""
+        """Returns the index of the step that is this attempt, or None if no step is this attempt."""
         if attempt is None:
             return None
-        # A restart or a down has the number of the attempt that follows it.
+        # A step that is not an attempt has the number of the next attempt.
         place = bisect.bisect_right(self.attempts, attempt) - 1
         return place if place >= 0 and self.attempts[place] == attempt and self.kinds[place] < RESTART else None
 
     def places_of(self, kind: int, first: int = 0) -> list[int]:
-        """Returns the places of the steps of this kind, from `first` on."""
+        """Returns the indices of the steps of this kind, starting at index `first`."""
         if not self.count_of(kind):
             return []
         return [place for place in range(first, len(self)) if self.kinds[place] == kind]
@@ -278,11 +280,11 @@ class Steps(Sequence[Step]):
         return self.kinds.tobytes().count(kind)
 
     def text(self, place: int) -> str:
-        """Returns the frame of a step, or the empty text if the step is not an attempt."""
+        """Returns the frame of a step, or the empty string if the step is not an attempt."""
         return self.texts.all[self.frames[place]]
 
     def verdict(self, place: int) -> str:
-        """Returns the verdict of a step, or the empty text if the step is not an attempt."""
+        """Returns the verdict of a step, or the empty string if the step is not an attempt."""
         return self.verdict_texts.all[self.verdicts[place]]
 
     def counts_row(self, place: int) -> "array[int]":
@@ -305,7 +307,7 @@ class Steps(Sequence[Step]):
         return tuple(self.waiting[wide * place : wide * (place + 1)])
 
     def met(self, place: int) -> list[int]:
-        """Returns the interfaces that take part in a step: each one with a waiting frame."""
+        """Returns the interfaces that take part in a step: every interface with a waiting frame."""
         if self.kinds[place] >= RESTART:
             return []
         return [iface for iface, count in enumerate(self.waiting_before(place)) if count]
@@ -315,8 +317,8 @@ class Steps(Sequence[Step]):
         return [(iface, WireFrame(self._next(iface, place))) for iface in self.met(place)]
 
     def _next(self, iface: int, place: int) -> str:
-        """Returns the first frame that an interface tries or loses in this step or later. If there is none, returns the
-        first frame that waits at the end of the run."""
+        """Returns the first frame that an interface tries to send or loses in this step or later. If there is none,
+        returns the first frame that waits at the end of the run."""
         if self.ifaces[place] == iface:
             return self.text(place)
         self._sort_tries()
@@ -327,7 +329,8 @@ class Steps(Sequence[Step]):
         return self.text(tries[later]) if self.kinds[tries[later]] < RESTART else self.lost[tries[later]][0][1]
 
     def _sort_tries(self) -> None:
-        """Adds the steps since the last call to the lists of steps in which each interface tried or lost a frame."""
+        """Adds the steps since the last call to the lists of the steps in which an interface tried to send or lost a
+        frame."""
         self._tries = self._tries or [array("I") for _ in self._all_ifaces]
         for place in range(self._sorted, len(self)):
             if self.kinds[place] < RESTART or place in self.lost:
@@ -339,9 +342,9 @@ class Items:
     """The items that sockets received from their interfaces, in order, as columns."""
 
     def __init__(self, sockets: Sequence[Socket]) -> None:
-        #: The number of the socket of each item, and the step in which the socket got the item.
+        #: The socket number of each item, and the step in which the socket got the item.
         self.sockets, self.steps = array("I"), array("I")
-        #: For an error message frame its place among the texts; 0 if the item is the frame of the step.
+        #: The index of an error message frame among the strings of frames; 0 if the item is the frame of the step.
         self.errors = array("I")
         self._all_sockets = sockets
         # The start and the end of each range of dropped items. Ranges are stored because a million items may be
@@ -352,7 +355,7 @@ class Items:
         return len(self.sockets)
 
     def extend(self, chunk: "Chunk", first_step: int) -> None:
-        """Adds the items of a chunk. `first_step` is the number of its first step."""
+        """Adds the items of a chunk. `first_step` is the index of the chunk's first step."""
         for number, count in chunk.handed.items():
             self._all_sockets[number].handed += count
         self.sockets.frombytes(chunk.item_sockets)
@@ -360,11 +363,11 @@ class Items:
         self.errors.frombytes(bytes(self.errors.itemsize * (len(self.sockets) - len(self.errors))))
 
     def drop(self, first: int, count: int) -> None:
-        """Marks `count` items, from the item `first` on, as dropped."""
+        """Marks `count` items as dropped, starting at index `first`."""
         self._dropped.extend((first, first + count))
 
     def drops(self) -> Iterator[range]:
-        """Yields the ranges of places of dropped items."""
+        """Yields the index ranges of the dropped items."""
         return map(range, self._dropped[::2], self._dropped[1::2])
 
     def fates(self) -> "array[int]":
@@ -372,7 +375,7 @@ class Items:
         fates, queues = array("B", [TAKEN]) * len(self), self._queues()
         for places in self.drops():
             fates[places.start : places.stop] = array("B", [DROPPED]) * len(places)
-        # The last items of a socket's queue have not been taken.
+        # The items that were not taken are the last ones in a socket's queue.
         left = Counter({socket.number: socket.queued - socket.taken for socket in self._all_sockets})
         place, many = len(self), sum(left.values())
         while many:
@@ -385,16 +388,16 @@ class Items:
         return fates
 
     def ends(self, most: Optional[int] = None) -> "array[int]":
-        """Returns, for each item or the first `most` items, the number of steps before it was taken or its socket was
-        closed; 0 if neither happened."""
-        # A socket returns its items in the order in which it got them.
+        """Returns, for each item or for the first `most` items, the number of steps before it was taken or before its
+        socket was closed. The number is 0 if neither happened."""
+        # A socket returns its items in the order in which it received them.
         ends = [*map(ends_at, self._all_sockets), itertools.repeat(0)]
         found: Iterator[int] = map(next, map(ends.__getitem__, self._queues()[:most]), itertools.repeat(0))
         return array("I", found)
 
     def _queues(self) -> "array[int]":
-        """Returns the number of the socket whose queue held each item. For a dropped item it is the number of all
-        sockets."""
+        """Returns the number of the socket whose queue held each item. For a dropped item, returns the number of
+        sockets, which is no socket's number."""
         queues, none = array("I", self.sockets), array("I", [len(self._all_sockets)])
         for places in self.drops():
             queues[places.start : places.stop] = none * len(places)
@@ -402,13 +405,13 @@ class Items:
 
 
 def ends_at(socket: Socket) -> Iterator[int]:
-    """Yields the number of steps after which each item leaves the socket's queue. The iterator never ends."""
+    """Yields the number of steps before each item leaves the socket's queue. The iterator is endless."""
     last = 0 if socket.closed_after is None else socket.closed_after + 1
     return itertools.chain(socket.taken_after, itertools.repeat(last))
 
 
 def moment_of(micros: int) -> str:
-    """Formats a time in the spelling of the record."""
+    """Formats a time in the same way as a record does."""
     return f"{micros // 1000000}.{micros % 1000000:06}"
 
 

@@ -1,4 +1,4 @@
-"""Describes a run in words: its heading, its facts, and its noteworthy events."""
+"""Describes a run in words: a heading, its size, and its noteworthy events."""
 
 import bisect
 import itertools
@@ -16,9 +16,10 @@ from canbusd._words import OUTCOMES
 from canbusd.record import members_of
 from canbusd.replay import Replay
 
-# Refused sends or dropped items at one place form one event if at most this many steps are between them.
+# Several refused sends, or several dropped items, at one interface or socket form one event if at most this many steps
+# are between them.
 GAP = 8
-# Matches consecutive steps in which a count has the same severity.
+# Matches consecutive steps at which a count has the same severity.
 SAME_LEVEL = re.compile(rb"\x00+|\x01+|\x02+|\x03+")
 REASONS = {
     "no-buffers": "its transmit queue was full",
@@ -28,7 +29,7 @@ REASONS = {
 
 
 class Event(NamedTuple):
-    """A noteworthy event at a step of the run. Step -1 stands for the time before the first step."""
+    """A noteworthy event at a step of the run. Step -1 means the time before the first step."""
 
     step: int
     kind: str
@@ -37,7 +38,7 @@ class Event(NamedTuple):
 
 
 def joined(words: Sequence[str]) -> str:
-    """Joins words to a list: `a`, `a and b`, `a, b and c`."""
+    """Joins words into a list: `a`, `a and b`, `a, b and c`."""
     return " and ".join([", ".join(words[:-1]), words[-1]] if len(words) > 1 else words)
 
 
@@ -48,7 +49,7 @@ def events_of(run: Replay, names: Sequence[str]) -> list[Event]:
 
 
 def state_events(run: Replay, names: Sequence[str]) -> Iterator[Event]:
-    """Yields the changes of state, the frames lost because an interface went bus off or down, and the restarts."""
+    """Yields events: changes of state, frames lost because an interface went bus off or down, and restarts."""
     steps = run.steps
     # The step in which each interface last went bus off or down.
     went: dict[int, int] = {}
@@ -81,8 +82,7 @@ def down_of(run: Replay, number: int, name: str) -> Iterator[Event]:
 
 
 def level_changes(steps: Steps, ifaces: int) -> Iterator[int]:
-    """Yields the steps in which some error count reaches or leaves a level of severity. The first step may be
-    included."""
+    """Yields the steps in which the severity of an error count changes. The first step may be included."""
     for place in range(2 * ifaces if steps.changed else 0):
         column = steps.counts[place :: 2 * ifaces]
         most = max(column, default=0)
@@ -123,7 +123,7 @@ def duration_words(micros: int) -> str:
 class Climb(NamedTuple):
     """The attempts that raised the transmit error count of an interface since the count was last 0."""
 
-    #: The number of the first of these attempts, and how many attempts changed the count.
+    #: The number of the first of these attempts, and how many attempts changed the transmit error count.
     first: int
     attempts: int
     #: The number of failed attempts for each verdict, or for `noack`.
@@ -139,7 +139,7 @@ class Climb(NamedTuple):
 
 
 def climb_to(steps: Steps, last: int, iface: int) -> Climb:
-    """Returns the attempts that raised the transmit error count of an interface, up to this step of the interface."""
+    """Returns the attempts that raised the transmit error count of an interface, up to the step `last`."""
     found: list[int] = []
     for place in reversed(range(bisect.bisect_right(steps.changed, last))):
         number = steps.changed[place]
@@ -159,7 +159,7 @@ def fault_words(fault: str, names: Sequence[str]) -> str:
 
 
 def change_of(steps: Steps, number: int, i: int, names: Sequence[str]) -> Iterator[Event]:
-    """Describes the change of an interface's state in a step."""
+    """Yields the events for the change of an interface's state in a step."""
     tec, rec = steps.counts_after(number)[i]
     name, state = names[i], severity(max(tec, rec))
     if state == 3:
@@ -177,9 +177,10 @@ def second_copies(run: Replay, names: Sequence[str]) -> Iterator[Event]:
     """Yields the attempts in which a receiver accepted a frame a second time, after a fault in the last bit."""
     steps = run.steps
     kinds, number = steps.kinds.tobytes(), -1
-    # For each interface, the last frame that has to be sent again, and how many copies of the frame each receiver has.
+    # For each interface, the last frame that has to be sent again, and how many copies of the frame each receiver has
+    # accepted.
     had: dict[int, tuple[int, Counter[int]]] = {}
-    # As long as no frame has to be sent again, the loop skips to the next fault, because there may be a million
+    # While no frame has to be sent again, the loop skips to the next last-bit fault, because there may be a million
     # attempts.
     while 0 <= (number := number + 1 if had else kinds.find(LASTBIT, number + 1)) < len(kinds):
         kind, iface, accepted = kinds[number], steps.ifaces[number], steps.accepted[number]
@@ -201,7 +202,7 @@ def second_copies(run: Replay, names: Sequence[str]) -> Iterator[Event]:
 
 
 def refusals_of(run: Replay, names: Sequence[str]) -> Iterator[Event]:
-    """Yields the sends that were refused because a queue was full or an interface was off."""
+    """Yields the sends that were refused because a queue was full or because an interface was off."""
     for (iface, reason), steps in run.refused.items():
         for first, count in groups(steps):
             yield Event(first, "refused", iface, f"{names[iface]} refused {times(count, 'send')}: {REASONS[reason]}")
@@ -234,7 +235,7 @@ def groups(steps: Iterable[int]) -> Iterator[tuple[int, int]]:
 
 
 def verdict_words(verdict: str, names: Sequence[str]) -> str:
-    """Describes a verdict of the record in words: `local crc at can1` for `local-crc:0002`."""
+    """Describes a verdict from the record in words: `local crc at can1` for `local-crc:0002`."""
     kind, colon, _ = verdict.partition(":")
     if not colon:
         return {"good": "none", "lastbit": "last bit, at the sender only"}.get(kind, kind.replace("-", " "))
@@ -247,7 +248,7 @@ def counts_by_kind(run: Replay) -> dict[str, int]:
 
 
 def facts_of(run: Replay) -> str:
-    """Describes the run in numbers."""
+    """Describes the size of the run in numbers."""
     counts = counts_by_kind(run)
     outcomes = [f"{counts[kind]:,} {words}" for kind, words in OUTCOMES.items() if counts[kind]]
     facts = [f"{times(run.attempts, 'attempt')}: {joined(outcomes)}"] if outcomes else []
@@ -259,8 +260,7 @@ def facts_of(run: Replay) -> str:
 
 
 def heading_of(run: Replay, names: Sequence[str], events: Sequence[Event]) -> tuple[str, int]:
-    """Describes the size and the worst event of the run on one line, and returns the line with the step of that
-    event."""
+    """Describes the size and the worst event of the run in one line. Returns this line and the step of that event."""
     size = f"{times(len(names), 'node')}, {times(run.attempts, 'attempt')}"
     if not run.attempts:
         return f"{size}: no frame was tried", 0

@@ -1,4 +1,4 @@
-"""Summarises a bus in a few lines: its events, the end of its log, and a table of its interfaces."""
+"""Summarises a bus in a few lines: its events, the last lines of its log, and a table of its interfaces."""
 
 import os
 import re
@@ -16,7 +16,7 @@ from canbusd.signals import Database
 
 HEADINGS = ("interface", "state", "TEC", "REC", "sent", "done", "waiting", "lost", "refused")
 LAST_LINES = 10
-# More bytes than the last shown lines of a log have, together with the line before them.
+# More bytes than the shown last lines of a log have, including the line before them.
 LAST_BYTES = 4096
 MOST_EVENTS = 10
 
@@ -34,7 +34,7 @@ def interfaces(record: Record) -> list[Row]:
 
 
 def story(record: Record, most: int = MOST_EVENTS) -> list[str]:
-    """Returns a line that summarises the run, and the last events of the run."""
+    """Returns a line that summarises the run, and lines for the last events of the run."""
     replay, names = record.replay, record.names
     events = events_of(replay, names)
     lines = [heading_of(replay, names, events)[0]]
@@ -47,12 +47,12 @@ def story(record: Record, most: int = MOST_EVENTS) -> list[str]:
 
 
 def load_words(permille: int) -> str:
-    """Formats the load of a bus, given in thousandths, with a small bar: ` 43.2 % ####......`."""
+    """Formats a bus load, given in thousandths, with a small bar: ` 43.2 % ####......`."""
     return f"{permille / 10:5.1f} % {'#' * min(round(permille / 100), 10):.<10}"
 
 
 def table(rows: Iterable[Row], headings: Sequence[str] = HEADINGS) -> list[str]:
-    """Returns the lines of a table. Texts are aligned left, and numbers are aligned right."""
+    """Returns the lines of a table. The first two columns are aligned left, and the other columns are aligned right."""
     cells = [list(headings), *([str(cell) for cell in row] for row in rows)]
     widths = [max(len(row[place]) for row in cells) for place in range(len(headings))]
     return [
@@ -65,7 +65,7 @@ def table(rows: Iterable[Row], headings: Sequence[str] = HEADINGS) -> list[str]:
 
 
 def end_of_log(path: Path) -> list[str]:
-    """Returns the path and the last lines of a log. The meaning of error message frames is added in words."""
+    """Returns the path and the last lines of a log. The meaning of each error message frame is added in words."""
     try:
         with open(path, "rb") as file:
             file.seek(max(0, os.fstat(file.fileno()).st_size - LAST_BYTES))
@@ -77,7 +77,7 @@ def end_of_log(path: Path) -> list[str]:
 
 
 def with_meaning(line: str) -> str:
-    """Returns a line of a log, which may be partial. If the line has an error message frame, its meaning is added."""
+    """Returns a line of a log, which may be incomplete. If it contains an error message frame, the meaning is added."""
     words = line.split()
     if len(words) == 3 and re.fullmatch(ERROR_FRAME, words[2]):
         return f"{line}  {meaning(words[2])}"
@@ -91,7 +91,7 @@ def write_page(
     rates: Optional[Rates] = None,
     database: Optional[Database] = None,
 ) -> Path:
-    """Writes the page of a run, and returns the path of the page. The caller may add the rule of each attempt, the bus
+    """Writes the page of a run, and returns the path of the page. The caller can pass the rule of each attempt, the bus
     load, and messages with their signals."""
     from canbusd._page.report import page
 

@@ -1,4 +1,4 @@
-"""Reads the event lines of a large run in several processes, and adds their chunks to the run in order."""
+"""Reads the event lines of a large run in several processes, and adds the resulting chunks to the run in order."""
 
 import contextlib
 import itertools
@@ -14,19 +14,20 @@ from canbusd._run.chunks import Reader, opened_in
 from canbusd._run.run_parts import Bus
 from canbusd.replay import Replay
 
-# The number of texts that this process reads alone before other processes help. A small run needs no help.
+# The number of blocks of lines that this process reads alone before worker processes help. A small run needs no
+# workers.
 FEW = 32
-# The maximum number of processes that help. More would be no faster, because only this process adds chunks to the run.
+# The maximum number of worker processes. More would be no faster, because only this process adds chunks to the run.
 MOST = 3
 
 
 def take_all(run: Replay, texts: Iterable[str]) -> None:
-    """Adds the lines of events to a run. Each text consists of complete lines."""
+    """Adds the events to a run. Each string in `texts` consists of complete lines."""
     all_texts = iter(texts)
     run.take_texts(itertools.islice(all_texts, FEW))
     count = min(len(os.sched_getaffinity(0)) - 1, MOST)
     text = next(all_texts, "")
-    # A process with several threads is not forked.
+    # A process with several threads is not forked, so it reads everything alone.
     if text and run.bus is not None and count > 0 and threading.active_count() == 1:
         with contextlib.closing(Workers(run.bus, count)) as workers:
             take_by(workers, run, itertools.chain([text], all_texts))
@@ -35,11 +36,12 @@ def take_all(run: Replay, texts: Iterable[str]) -> None:
 
 
 def take_by(workers: "Workers", run: Replay, texts: Iterator[str]) -> None:
-    """Adds lines to a run that worker processes read."""
+    """Adds the events to a run. Worker processes read the lines."""
     sockets = run.socket_ifaces()
     busy: deque[Connection] = deque()
     for text in texts:
-        # A worker gets its next lines before its previous chunk is added to the run, so that it always has work.
+        # A worker gets its next lines before the chunk of its previous lines is added to the run, so that it always has
+        # work.
         pipe = busy.popleft() if len(busy) == len(workers.pipes) else None
         chunk = pipe.recv() if pipe else None
         pipe = pipe or workers.pipes[len(busy)]
@@ -54,7 +56,7 @@ def take_by(workers: "Workers", run: Replay, texts: Iterator[str]) -> None:
 
 
 class Workers:
-    """Worker processes that read lines. Each has its own pipe."""
+    """Worker processes that read event lines. Each of them has its own pipe."""
 
     def __init__(self, bus: Bus, count: int) -> None:
         self.pipes: list[Connection] = []

@@ -1,4 +1,4 @@
-"""The address of a server: parsing it, connecting to it, and explaining why a connection failed."""
+"""The address of a server: parses it, connects to it, and explains why a connection failed."""
 
 import os
 import re
@@ -6,7 +6,8 @@ import socket
 from typing import Optional
 
 DEFAULT_ADDRESS = "127.0.0.1:29536"
-# The errors if no server listens at an address: one for TCP, and one for a Unix path that does not exist.
+# The exceptions that mean that no server listens at an address: one for TCP, and one for a Unix path that does not
+# exist.
 NO_SERVER = (ConnectionRefusedError, FileNotFoundError)
 # Matches HOST:PORT or [V6]:PORT.
 HOST_PORT = re.compile(r"(?:\[([^][]+)\]|([^][:]+)):([0-9]{1,5})")
@@ -15,7 +16,7 @@ HOST_PORT = re.compile(r"(?:\[([^][]+)\]|([^][:]+)):([0-9]{1,5})")
 def parse_address(
     text: str, what: str = "address", least_port: int = 1
 ) -> tuple[Optional[str], Optional[tuple[str, int]]]:
-    """Parses an address, and returns its Unix path, or its host and port. Raises ValueError for any other text."""
+    """Parses an address, and returns its Unix path, or its host and port. Raises ValueError for any other string."""
     if text.startswith(("/", ".")):
         return text, None
     words = HOST_PORT.fullmatch(text)
@@ -26,14 +27,14 @@ def parse_address(
 
 
 def meant(text: str) -> str:
-    """Returns a suggestion for an incomplete address, as a question, or the empty text if there is none."""
+    """Returns a suggestion for an incomplete address, in the form of a question, or the empty string if there is none."""
     if re.fullmatch(":?[0-9]{1,5}", text):
         return f" (127.0.0.1:{text.lstrip(':')}?)"
     return f" (./{text}?)" if re.fullmatch("[^:]*[.][^:]*", text) else ""
 
 
 def server_address(given: Optional[str] = None) -> str:
-    """Returns the address of the server: the given one, or $CANBUSD_ADDRESS, or the default. Raises ValueError if the
+    """Returns the server's address: the given one, or $CANBUSD_ADDRESS, or the default. Raises ValueError if the
     address is malformed."""
     address = str(given or os.environ.get("CANBUSD_ADDRESS") or DEFAULT_ADDRESS)
     parse_address(address)
@@ -47,11 +48,11 @@ def reason_of(fault: Exception) -> str:
 
 
 def connect(address: str, timeout: float) -> socket.socket:
-    """Connects to this address, and returns a socket that sends small writes at once."""
+    """Connects to this address, and returns a socket that sends small writes without delay."""
     path, host_port = parse_address(address)
     if host_port is not None:
         connected = socket.create_connection(host_port, timeout)
-        # Without this option, a command waits up to 40 milliseconds until the previous command is acknowledged.
+        # Without this option, a command would wait up to 40 milliseconds until TCP acknowledges the previous command.
         connected.setsockopt(socket.IPPROTO_TCP, socket.TCP_NODELAY, 1)
     else:
         assert path is not None

@@ -1,4 +1,4 @@
-"""Checks the arguments of a bus, which may be texts, as in can.conf or on a command line, and the arguments of other
+"""Checks the arguments of a bus, which may be strings, as in can.conf or on a command line, and the arguments of other
 calls."""
 
 from numbers import Real
@@ -11,7 +11,7 @@ TRUTHS = {"1": True, "true": True, "yes": True, "on": True, "0": False, "false":
 
 
 def truth(name: str, value: object) -> bool:
-    """Returns a truth value. The caller may give it as a text."""
+    """Returns a truth value. The caller may pass it as a string."""
     found = TRUTHS.get(str(value).lower())
     if found is None:
         raise ValueError(f"{name} is true or false, not {value!r}")
@@ -19,7 +19,7 @@ def truth(name: str, value: object) -> bool:
 
 
 def mask_or_truth(name: str, value: object) -> Union[bool, int]:
-    """Returns a mask of error classes, or a truth value that stands for all classes or none. 0 and 1 are truth
+    """Returns a mask of error classes, or a truth value that stands for all classes or for none. 0 and 1 are truth
     values."""
     if str(value).lower() in TRUTHS:
         return truth(name, value)
@@ -33,7 +33,7 @@ def mask_or_truth(name: str, value: object) -> Union[bool, int]:
 
 
 def seconds(name: str, value: object) -> float:
-    """Returns a number of seconds above 0. The caller may give it as a text."""
+    """Returns a number of seconds greater than 0. The caller may pass it as a string."""
     try:
         found = float(str(value))
     except ValueError:
@@ -44,7 +44,7 @@ def seconds(name: str, value: object) -> float:
 
 
 def bit_rates(**rates: object) -> dict[str, int]:
-    """Returns the bit rates that are not None, as whole numbers. The caller may give them as texts."""
+    """Returns the bit rates that are not None, as integers. The caller may pass them as strings."""
     try:
         return {name: int(str(rate)) for name, rate in rates.items() if rate is not None}
     except ValueError:
@@ -52,7 +52,7 @@ def bit_rates(**rates: object) -> dict[str, int]:
 
 
 def interface_name(channel: object) -> str:
-    """Returns the name of an interface; raises ValueError for an invalid channel."""
+    """Returns the name of an interface. Raises ValueError for an invalid channel."""
     name = str(channel)
     if not NAME.fullmatch(name):
         raise ValueError(f"channel is the name of an interface, such as can0, not {channel!r}")

@@ -36,7 +36,7 @@ from canbusd.frames import (
 if TYPE_CHECKING:
     from canbusd.bench import Bench
 
-#: Matches texts that `call` does not accept.
+#: Matches strings that `call` does not accept.
 NOT_ONE = re.compile(r"[<>\n]|^\s*close\b")
 CLOSED = re.compile(r"[0-9]+ < closed ([0-9]+) ([0-9]+) >")
 
@@ -50,7 +50,7 @@ class PeriodicSend:
         self._end = None if duration is None else session._bench._now + round(duration * 1e6)
 
     def modify_data(self, message: MessageLike) -> None:
-        """Replaces the frame. The times of sending stay the same. The new frame must have the same identifier."""
+        """Replaces the frame without changing the schedule. The new frame must have the same identifier."""
         frame = frame_like(message)
         if identifier_word(frame) != identifier_word(self._frame):
             raise ValueError(f"a periodic frame keeps its identifier: {self._frame} can't become {frame}")
@@ -70,7 +70,7 @@ class PeriodicSend:
         return self._next
 
     def put_due(self, moment: int) -> None:
-        """Sends the frame as often as it is due by this time."""
+        """Sends the frame once for each due time up to `moment`."""
         while self._next is not None and self._next <= moment:
             if self._session._closed or (self._end is not None and self._next >= self._end):
                 self.stop()
@@ -89,9 +89,9 @@ class Session(InjectsFaults, NamesWhatThereIs):
     def __init__(self, bench: "Bench", number: int, channel: str) -> None:
         self._bench, self._number = bench, number
         self._closed = False
-        # The numbers of this session's frames among the frames sent at its interface.
+        # The indices of this session's frames among the frames sent at its interface.
         self._own: set[int] = set()
-        # The frames that were read from the socket but not returned yet.
+        # The frames that were read from the socket but not yet returned to the caller.
         self._received: deque[Frame] = deque()
         #: The name of the session's interface.
         self.channel = channel
@@ -117,7 +117,7 @@ class Session(InjectsFaults, NamesWhatThereIs):
     ) -> None:
         """Puts a frame into the transmit queue of the interface, or raises Refused.
 
-        `frame` is a Frame, a message of python-can, or an identifier. An identifier up to 7FF has 11 bits unless
+        `frame` is a Frame, a python-can message, or an identifier. An identifier up to 7FF has 11 bits unless
         `is_extended_id` says otherwise. `dlc` is the length that a remote frame requests. With a `timeout`, the call
         lets up to this many seconds pass on the bus until a full queue has room.
         """
@@ -155,7 +155,7 @@ class Session(InjectsFaults, NamesWhatThereIs):
             self._own.add(len(accepted) - 1)
 
     def _was_accepted(self, frame: Frame) -> bool:
-        """Puts a frame into the transmit queue if the queue has room, and returns whether it had room."""
+        """Puts a frame into the transmit queue if there is room. Returns whether there was room."""
         try:
             self._put(frame)
             return True
@@ -166,7 +166,7 @@ class Session(InjectsFaults, NamesWhatThereIs):
 
     def receive(self) -> list[Frame]:
         """Returns the frames that the socket has received, oldest first. Error message frames are included if the
-        session asked for them."""
+        session requested them."""
         self._gather()
         frames = list(self._received)
         self._received.clear()
@@ -185,9 +185,11 @@ class Session(InjectsFaults, NamesWhatThereIs):
         return first() or self._bench.pass_time(first, timeout)
 
     def send_periodic(self, msgs: MessageLike, period: float, duration: Optional[float] = None) -> "PeriodicSend":
-        """Sends a frame every `period` seconds of bus time, starting now. Sending ends after `duration` seconds, or
-        when the caller calls `stop()` of the returned task. A full queue, bus off, or an interface that is down does
-        not end the task."""
+        """Sends a frame every `period` seconds of bus time, starting now.
+
+        The task ends after `duration` seconds, or when the caller calls `stop()` of the returned task. A full queue,
+        bus off, or an interface that is down does not end the task.
+        """
         check_within(period, "period")
         if not period > 0:
             raise ValueError(f"period is a number of seconds above 0, not {period!r}")
@@ -196,7 +198,7 @@ class Session(InjectsFaults, NamesWhatThereIs):
         return task
 
     def handed_over(self) -> list[str]:
-        """Returns the items that the socket has received, as messages of the protocol."""
+        """Returns the items that the socket has received, as protocol messages."""
         number = self._live()
         return self._bench._ask(f"drain {number}\nfeed {number} < echo >")
 
@@ -208,7 +210,7 @@ class Session(InjectsFaults, NamesWhatThereIs):
                 self._received.append(frame)
 
     def error_counters(self) -> ErrorCounters:
-        """Returns the state of the interface and its error counts. This is the same as `status`."""
+        """Returns the state of the interface and its error counts, like `status`."""
         return self.status()
 
     def status(self) -> ErrorCounters:
@@ -220,18 +222,18 @@ class Session(InjectsFaults, NamesWhatThereIs):
         return self._parsed(self._answer("stats"), stats_of)
 
     def load(self) -> Load:
-        """Returns the bus load: in the last whole second before the bench's time, and in the whole run."""
+        """Returns the bus load in the last whole second before the bench's current time, and in the whole run."""
         return self._parsed(self._answer("load"), load_of)
 
     def set_filters(self, filters: Optional[Filters] = None) -> None:
-        """Sets the filters of the socket, in python-can's form. Without filters the socket receives everything."""
+        """Sets the filters of the socket, in python-can's form. Without filters the socket receives all frames."""
         message = filter_message(filters)
         if message is None:
             raise ValueError("filters are more than fit into one message of 1,024 bytes")
         self.call(message)
 
     def restart(self, at: Union[str, float, None] = None) -> None:
-        """Brings the interface back from bus off, at the time `at` if it is given."""
+        """Brings the interface back from bus off, at time `at` if it is given."""
         number = self._live()
         try:
             self._bench._ask(f"feed {number} < restart >< echo >", at)
@@ -239,10 +241,10 @@ class Session(InjectsFaults, NamesWhatThereIs):
             raise Refused(f"{self.channel}: {fault}, but {self.status().state}") from None
 
     def down(self, at: Union[str, float, None] = None) -> None:
-        """Takes the interface off the bus, at the time `at` if it is given. The frames in its transmit queue are lost.
+        """Takes the interface off the bus, at time `at` if it is given. The frames in its transmit queue are lost.
 
-        Until `up`, the interface sends, accepts and acknowledges nothing, and a send is refused as `interface down`. It
-        is no error if the interface is already down.
+        Until `up` is called, the interface sends, accepts and acknowledges nothing, and a send is refused as `interface
+        down`. It is no error if the interface is already down.
         """
         try:
             self._bench._ask(f"feed {self._live()} < down >< echo >", at)
@@ -250,8 +252,8 @@ class Session(InjectsFaults, NamesWhatThereIs):
             raise Refused(f"{self.channel}: {NO_DOWN if str(fault) == UNKNOWN_COMMAND else fault}") from None
 
     def up(self, at: Union[str, float, None] = None) -> None:
-        """Brings the interface up, or back from bus off, at the time `at` if it is given. Both error counts become 0.
-        It is no error if the interface is already up."""
+        """Brings the interface up, or back from bus off, at time `at` if it is given. Both error counts become 0. It is
+        no error if the interface is already up."""
         try:
             self._bench._ask(f"feed {self._live()} < restart >< echo >", at)
         except Refused as fault:
@@ -259,14 +261,14 @@ class Session(InjectsFaults, NamesWhatThereIs):
                 raise
 
     def call(self, message: str) -> list[str]:
-        """Sends a message of the protocol, such as `recvown 1`, and returns its answers. Raises Refused if the message
-        is refused."""
+        """Sends a protocol message, such as `recvown 1`, and returns its answers. Raises Refused if the message is
+        refused."""
         if NOT_ONE.search(message):
             raise ValueError(f"message is one message without < and >, and not close: {message!r}")
         text = f" {message} "
         if len(text.encode()) > LONGEST_MESSAGE:
-            # If a message fits into a line of the bench but is too long for the session, the session refuses it with
-            # this text.
+            # If a message fits into a line of the bench but is too long for a session, the session refuses it with
+            # these words.
             raise Refused("message too long")
         with self._bench._turn:
             answers = self._bench._ask(f"feed {self._live()} <{text}>< echo >")

@@ -1,14 +1,14 @@
 """A connection to a server that any number of threads can use.
 
-A thread that waits for a frame or an answer reads the socket, unless another thread already reads it. The reading
-thread sorts the messages into frames and answers, and wakes the other threads. So the connection needs no thread of its
-own, and reads nothing too early.
+A thread that waits for a frame or an answer reads the socket, unless another thread is reading it. The reading thread
+sorts the messages into frames and answers, and wakes the other threads. So the connection needs no separate thread, and
+reads nothing too early.
 
 A signal handler may raise an exception at any time, for example at Ctrl-C. So the code either takes a lock with `with`,
 or records in the same step that it took the lock. No thread waits while it holds a lock that others need. Sent or
-received bytes are never forgotten: `noted.extend(map(call, (word,)))` is a single call in C, so the list has the result
-of `call` before any handler runs. threading.Condition is not used, because it releases its lock to wait and then takes
-it again, so an exception would leave it locked.
+received bytes are never forgotten: `noted.extend(map(call, (word,)))` is a single call in C, so the result of `call` is
+in the list before any handler runs. threading.Condition is not used, because it releases its lock to wait and then
+takes it again, so an exception would leave it locked.
 """
 
 import contextlib
@@ -33,10 +33,10 @@ CLOSE_TIMEOUT = 1.0
 # The shortest and the longest pause in seconds between two checks of a state that the server does not announce, such as
 # a full transmit queue.
 POLL, LONGEST_POLL = 0.0002, 0.01
-# The maximum time in seconds for which a waiting thread sleeps. Then it checks for input that another thread has read,
-# because that thread may have been interrupted.
+# The maximum time in seconds for which a waiting thread sleeps. Then the thread checks for input that another thread
+# has read, because the other thread may have been interrupted before it could wake this one.
 LONGEST_NAP = 1.0
-# How many seconds another thread gets for its turn to read.
+# How many seconds another thread gets to finish its read.
 A_TURN = 0.001
 # Any program may listen at an address, and terminals execute control characters. So characters that occur in no message
 # become `?`, and all whitespace characters become spaces.
@@ -50,11 +50,11 @@ class NoAnswer(TimeoutError):
 
 
 class SessionRefused(Exception):
-    """The server refused the session. The text is the server's reason."""
+    """The server refused the session. The exception's text is the server's reason."""
 
 
 class Connection:
-    """A session with the server at this address, after the server's greeting.
+    """A session with the server at this address. It begins with the server's greeting.
 
     If the server does not answer within `timeout` seconds, calls raise NoAnswer. After the connection has ended, calls
     raise ConnectionError.
@@ -62,19 +62,19 @@ class Connection:
 
     def __init__(self, address: str, timeout: float) -> None:
         self._timeout = timeout
-        # One lock allows only one question at a time, one allows only one reader at a time, and one protects the state
-        # below.
+        # The first lock allows only one question at a time, the second allows only one reader at a time, and the third
+        # protects the attributes below.
         self._asking = threading.Lock()
         self._reading = threading.Lock()
         self._lock = threading.Lock()
-        # Threads wait for this lock while another thread reads. It is released when there is news.
+        # Threads wait for this lock while another thread reads. It is released when that thread has read something.
         self._news: Optional[threading.Lock] = None
-        # The bytes that were read but not sorted yet, and the beginning of an incomplete message.
+        # The bytes that were read but not yet sorted into messages, and the beginning of an incomplete message.
         self._pieces: list[bytes] = []
         self._rest = ""
         self._frames: deque[str] = deque()
-        # Whether the server acknowledges each sent frame with its number, and the numbers of this session's frames if
-        # they are recorded.
+        # Whether the server acknowledges each sent frame with the frame's number, and the numbers of this session's
+        # frames if they are recorded.
         self._has_acks = False
         self._own: Optional[OwnNumbers] = None
         # The length of the current question in bytes, and how many of its bytes were sent.
@@ -94,8 +94,8 @@ class Connection:
             raise
 
     def ask(self, messages: Sequence[str]) -> list[str]:
-        """Writes these messages at once, and returns the answer to each. The empty text means that there was no answer
-        or that a frame was accepted."""
+        """Writes these messages at once, and returns the answer to each. The empty string means that there was no
+        answer, or that a frame was accepted."""
         written: list[str] = []
         ends = ""
         for message in messages:
@@ -117,8 +117,10 @@ class Connection:
             return answers
 
     def ask_acks(self, notes_own: bool = False) -> None:
-        """Asks the server to acknowledge each sent frame with its number instead of an echo. If `notes_own` is true,
-        these numbers are recorded for `is_own`. An older server continues with echoes."""
+        """Requests that the server acknowledges each sent frame with the frame's number instead of an echo.
+
+        If `notes_own` is true, these numbers are recorded for `is_own`. An older server continues to send echoes.
+        """
         self._own = OwnNumbers() if notes_own else None
         self._has_acks = self.ask(["ack 1"]) == ["ok"]
 
@@ -127,10 +129,10 @@ class Connection:
         return self._own is not None and number in self._own
 
     def frame(self, timeout: Optional[float]) -> Optional[str]:
-        """Returns the next message with a frame, without the text before its `<`. Returns None if no frame arrives
-        within these seconds."""
+        """Returns the next message with a frame, without the characters before its `<`. Returns None if no frame
+        arrives within `timeout` seconds."""
         if self._frames and self._readiness is None:
-            # In a burst of frames this is the usual case.
+            # This is the usual case in a burst of frames.
             try:
                 return self._frames.popleft()
             except IndexError:
@@ -139,17 +141,17 @@ class Connection:
             return self._wait(self._next_frame, None if timeout is None else time.monotonic() + timeout)
         except ConnectionError:
             with self._lock:
-                # A thread that waits for the file descriptor is told only once that the connection has ended.
+                # When the connection has ended, a thread that waits for the file descriptor is notified only once.
                 if self._readiness is not None and not self._is_closing:
                     self._readiness.show(False)
             raise
 
     def take_frames(self, to: deque[str]) -> int:
-        """Reads the socket once without waiting, appends the frames to `to`, and returns the number of frames.
+        """Reads the socket once without waiting, appends the frames to `to`, and returns how many frames were appended.
 
         A single call moves all frames, so each frame is in one of the two lists even if a signal handler raises an
-        exception. If another thread reads, that thread finishes its turn first, because repeated calls would otherwise
-        keep it from reading.
+        exception. If another thread is reading, this call waits for that thread to finish, because repeated calls would
+        otherwise keep it from reading.
         """
         before = len(to)
         try:
@@ -184,7 +186,7 @@ class Connection:
             return self._readiness.fileno()
 
     def close(self) -> None:
-        """Ends the session, and all calls that wait for it. A second call does nothing."""
+        """Ends the session, and all calls that wait for a frame or an answer. A second call does nothing."""
         with self._lock:
             if self._is_closed:
                 return
@@ -203,8 +205,8 @@ class Connection:
         self._release()
 
     def _part(self) -> None:
-        """Ends the session by closing the server's input. The server then closes the connection. The server may be gone
-        or busy."""
+        """Ends the session by closing the server's input. The server then closes the connection. The server may already
+        be gone, or may be busy."""
         taken: list[bool] = []
         try:
             taken.extend(map(self._asking.acquire, (True,), (CLOSE_TIMEOUT,)))
@@ -254,27 +256,27 @@ class Connection:
         return None
 
     def _settle(self) -> None:
-        """Forgets the current question. If it was given up after it was sent, its remaining answers will still
-        arrive."""
+        """Discards the current question. If the caller gave up after the question was sent, the remaining answers will
+        still arrive."""
         sent = sum(self._sent)
         if 0 < sent < self._length:
             self._stop("half a command was written")
         self._asked = self._asked.given_up(was_sent=sent > 0)
 
     def _write(self, left: memoryview, deadline: float) -> None:
-        """Writes the rest of a question, and reads frames meanwhile, because a server that waits for its reader accepts
-        no commands."""
+        """Writes the rest of a question. Reads frames in the meantime, because a server accepts no commands while it
+        waits for its client to read."""
         while left:
             sent = self._wait(lambda: self._send(left), deadline, select.POLLIN | select.POLLOUT)
             if sent is None:
                 with self._lock:
-                    # Perhaps only part of a command was written.
+                    # Part of a command may already have been written.
                     self._stop(f"the server took no commands within {seconds_words(self._timeout)}")
                 raise NoAnswer(self._end)
             left = left[sent:]
 
     def _send(self, data: Union[bytes, memoryview]) -> Optional[int]:
-        """Writes as many bytes as the socket accepts, and records their number."""
+        """Writes as many bytes as the socket accepts, and records how many that were."""
         if self._end is not None:
             self._raise_end()
         try:
@@ -289,7 +291,7 @@ class Connection:
     def _wait(
         self, ready: Callable[[], Optional[T]], deadline: Optional[float], events: int = select.POLLIN
     ) -> Optional[T]:
-        """Returns the first result of `ready` that is not None, or None if there is no such result until the deadline.
+        """Returns the first result of `ready` that is not None, or None if there is no such result before the deadline.
 
         `ready` is called again after each change. Messages that arrived before the end of the connection are still
         returned.
@@ -303,14 +305,14 @@ class Connection:
                 return found
 
     def _await_reader(self, ready: Callable[[], Optional[T]], left: Optional[float], events: int) -> Optional[T]:
-        """Waits until the reading thread has read something, if there is such a thread, and then returns the result of
+        """Waits until the reading thread has read something, if there is a reading thread. Returns the result of
         `ready`."""
         with self._lock:
             found = self._look(ready)
             if found is not None or left == 0:
                 return found
             news = self._next_news()
-        # A thread that starts to read from now on will see that this thread waits to be woken.
+        # A thread that starts to read after this point will find the lock, and will wake this thread.
         if self._reading.locked():
             # The reading thread does not notice when the socket accepts more bytes.
             most = 0.01 if events & select.POLLOUT else LONGEST_NAP
@@ -326,7 +328,7 @@ class Connection:
         return found
 
     def _next_news(self) -> threading.Lock:
-        """Returns a lock that can be taken once another thread has read something."""
+        """Returns a lock that is released after another thread has read something."""
         if self._news is None:
             news = threading.Lock()
             news.acquire()
@@ -344,8 +346,8 @@ class Connection:
     def _read(
         self, ready: Callable[[], Optional[T]], seconds: Optional[float], events: int
     ) -> tuple[bool, Optional[T]]:
-        """Reads the available input, or waits for input for these seconds. Does nothing if another thread reads or a
-        result is ready.
+        """Reads the available input, or waits up to `seconds` for input. Does nothing if another thread is reading or
+        if a result is ready.
 
         Returns whether no other thread was reading, and the result of `ready`.
         """
@@ -385,7 +387,7 @@ class Connection:
         messages = (self._rest + b"".join(self._pieces).translate(PRINTED).decode("ascii")).split(">")
         rest = messages.pop()
         asked, frames, unasked = self._asked.sorted(messages, self._note)
-        # The state changes completely or not at all: no signal handler runs before the frames are in their list.
+        # The state changes completely or not at all: no signal handler runs before the frames are in `_frames`.
         self._pieces, self._rest, self._asked = [], rest, asked
         self._frames.extend(frames)
         if unasked and not self._is_closing:
@@ -402,7 +404,7 @@ class Connection:
             self._own.note(number)
 
     def _stop(self, reason: str) -> None:
-        """Marks the connection as unusable. If it already is, the first reason stays."""
+        """Marks the connection as unusable. If it is already unusable, the first reason is kept."""
         if self._end is not None:
             return
         self._end = "the bus was shut down" if self._is_closing else reason

@@ -1,4 +1,4 @@
-"""A server's own session that receives the frames of an interface, and a thread that reads several such sessions."""
+"""A session that a server object opens to observe an interface, and a thread that reads several such sessions."""
 
 import os
 import select
@@ -14,9 +14,9 @@ from canbusd._session.raw_session import RawSession, fault, with_cure
 from canbusd._session.waits import wait_for_ready
 from canbusd.virtual import is_virtual
 
-# While no thread waits, messages collect for this many seconds, so that one read gets many of them. A Unix socket holds
-# about 4,000 frames. In this time, a bus of 1 Mbit/s in virtual time, or a server without a pace in real time, sends
-# half of that.
+# While no thread waits, messages accumulate for this many seconds, so that one read returns many of them. A Unix socket
+# holds about 4,000 frames. In this time, a bus of 1 Mbit/s in virtual time, or a server without a pace in real time,
+# sends half of that.
 NAP = 0.1 if is_virtual() else 0.02
 # If a read returns at least this many frames, there may be more.
 MANY = 256
@@ -30,9 +30,9 @@ class ObservingSession(RawSession):
     _queries = ("status",)
 
     def __init__(self, address: str, name: str, has_frames: bool) -> None:
-        #: The number of frames taken from this session.
+        #: How many frames were taken from this session.
         self.taken = 0
-        # The messages that were read but not passed on yet.
+        # The messages that were read but not yet passed to `add`.
         self._texts: deque[str] = deque()
         words = [] if has_frames else ["filter 0"]
         try:
@@ -44,11 +44,11 @@ class ObservingSession(RawSession):
 
     @property
     def unread(self) -> int:
-        """The number of frames that were read but not passed on yet."""
+        """The number of frames that were read but not yet passed to `add`."""
         return len(self._texts)
 
     def read(self) -> None:
-        """Reads the available messages, without waiting."""
+        """Reads the available messages without waiting."""
         while self.take_frames(self._texts) >= MANY:
             pass
 
@@ -63,7 +63,7 @@ class ObservingSession(RawSession):
         self.hand_on_read(add, self.unread)
 
     def hand_on_read(self, add: Callable[[str, str], None], count: int) -> None:
-        """Passes the `count` oldest messages that were read to `add`."""
+        """Passes the oldest `count` of the messages that were read to `add`."""
         for _ in range(count):
             add(self.channel, self._texts[0])
             self._texts.popleft()
@@ -81,8 +81,8 @@ class ObservingSession(RawSession):
 
 
 def wait_for_input(sessions: Sequence[ObservingSession], seconds: float) -> None:
-    """Waits for these seconds or until a message arrives at one of these sessions. The wait is short, because another
-    thread may read the message."""
+    """Waits for `seconds`, or until a message arrives at one of these sessions. The wait is limited to LONGEST_NAP,
+    because another thread may read the message."""
     wait_for_ready([session.fileno() for session in sessions], select.POLLIN, min(seconds, LONGEST_NAP))
 
 

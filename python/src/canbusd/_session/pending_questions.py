@@ -1,5 +1,5 @@
-"""Sorts the output of a server into frames and answers, and records the numbers of the frames that a session has
-sent."""
+"""Sorts the output of a server into frames and answers, and stores the numbers of the frames that a session has sent.
+"""
 
 from collections.abc import Callable, Iterable
 from typing import NamedTuple
@@ -8,11 +8,11 @@ from canbusd.frames import HANDED_OVER, MESSAGE
 
 # How an answer ends: with an echo, or with the verdict on a frame, which is a single message.
 ECHO, VERDICT = "e", "v"
-# The beginning of the verdict that accepts a frame, and the maximum length of such a verdict. The frame's number in the
+# The start of the verdict that accepts a frame, and the maximum length of such a verdict. The frame's number in the
 # verdict has at most ten digits, because a bus has fewer than 2**32 entries.
 ACK, LONGEST_ACK = "ack ", len("ack ") + 10
-# How many numbers a page has, and how many pages are kept. A frame that is older than all pages would arrive 16 million
-# numbers late.
+# How many frame numbers a page stores, and how many pages are kept. A frame whose page was removed would arrive 16
+# million numbers late.
 PAGE, MOST_PAGES = 4096, 4096
 
 
@@ -22,7 +22,7 @@ class Asked(NamedTuple):
 
     #: How each expected answer ends.
     ends: str
-    #: The number of answers that arrived, and the number of expected answers to questions that were given up.
+    #: The number of answers that arrived, and how many answers are still expected for questions that were given up.
     came: int = 0
     owed: int = 0
     #: The answers to the current question, and the beginning of the next answer.
@@ -41,7 +41,7 @@ class Asked(NamedTuple):
         return Asked(ends, 0, len(ends))
 
     def and_then(self, ends: str) -> "Asked":
-        """Returns the state with one more question. `ends` says how its answers end."""
+        """Returns the state with one more question. `ends` contains how each of its answers ends."""
         return Asked(self.ends + ends, *self[1:])
 
     def sorted(self, messages: Iterable[str], note: Callable[[int], None]) -> tuple["Asked", list[str], str]:
@@ -73,8 +73,8 @@ class Asked(NamedTuple):
 
 
 def verdict(message: str, note: Callable[[int], None]) -> str:
-    """Returns the answer that a verdict on a frame stands for. For `ack 17` it is the empty text, and `note` gets the
-    number 17."""
+    """Returns the answer that a verdict on a frame stands for. For `ack 17` this is the empty string, and `note` is
+    called with 17."""
     number = message[len(ACK) :]
     if not message.startswith(ACK) or not number.isdecimal() or len(message) > LONGEST_ACK:
         return message
@@ -83,7 +83,7 @@ def verdict(message: str, note: Callable[[int], None]) -> str:
 
 
 class OwnNumbers:
-    """The numbers of a session's frames at its interface. They are stored in pages with one byte for each number."""
+    """The numbers of a session's frames at its interface. Each page stores one byte for each number."""
 
     def __init__(self) -> None:
         self._pages: dict[int, bytearray] = {}
@@ -93,7 +93,7 @@ class OwnNumbers:
         return page is not None and page[number % PAGE] != 0
 
     def note(self, number: int) -> None:
-        """Adds a number. If there are too many pages, the oldest one is removed."""
+        """Adds a number. If there are too many pages, the oldest page is removed."""
         page = self._pages.get(number // PAGE)
         if page is None:
             page = self._pages[number // PAGE] = bytearray(PAGE)

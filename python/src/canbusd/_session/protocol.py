@@ -9,18 +9,19 @@ from typing import Any, Literal, NamedTuple, Optional, Union
 from canbusd._words import BUS_OFF, INTERFACE_DOWN, LONGEST_MESSAGE, NO_BUFFERS
 from canbusd.frames import EXTENDED, INVERTED
 
-# The length of the longest answer, which has the names of 256 interfaces.
+# The length of the longest answer, which contains the names of 256 interfaces.
 LONGEST_ANSWER = 4120
 ALL_CLASSES = 0x1FFFFFFF
-# The states of an interface: first the states that depend on its error counts, with the best first, and then `down`.
+# The states of an interface: first the states that depend on its error counts, from best to worst, and then `down`.
 State = Literal["active", "warning", "passive", "off", "down"]
 STATES: tuple[State, ...] = ("active", "warning", "passive", "off", "down")
-# Filters that let no frame pass: an inverted filter that matches everything.
+# Filters that pass no frame: an inverted filter that matches every frame.
 NO_FRAMES = [{"can_id": INVERTED, "can_mask": 0}]
 
 # Refusals that do not end a cyclic message: a full transmit queue, or an interface that is off the bus.
 PASSING = (NO_BUFFERS, BUS_OFF, INTERFACE_DOWN)
-# The text that users see instead of UNKNOWN_COMMAND. An older program gives that answer to a newer message.
+# The message that users see instead of UNKNOWN_COMMAND, which an older program returns for a message that it does not
+# support.
 NO_DOWN = "the program is older, and has no interfaces that go down"
 
 Filters = Sequence[Mapping[str, Any]]
@@ -69,28 +70,29 @@ class Load(NamedTuple):
 
     #: The bus load in the last whole second, in thousandths: 1000 is a full bus.
     permille: int
-    #: How long the wire was busy since the server began, in microseconds.
+    #: How long the wire has been busy since the server started, in microseconds.
     micros: int
     #: The nominal bit rate, in bit/s.
     bitrate: int
-    #: The bit rate for the data of FD frames with bit rate switch. If the server has no such rate, it is the nominal
-    #: bit rate.
+    #: The bit rate for the data of FD frames with a bit rate switch. If the server has no such rate, this is the
+    #: nominal bit rate.
     data_bitrate: int
 
 
 def refusal_in(answer: str) -> str:
-    """Returns the text of a refusal, the empty text for `ok`, or any other answer unchanged."""
+    """Returns the reason in a refusal, the empty string for `ok`, or any other answer unchanged."""
     return "" if answer == "ok" else answer.removeprefix("error ")
 
 
 def numbers(words: Sequence[str], count: int) -> Optional[list[int]]:
-    """Returns the values of these words if they are `count` decimal numbers, otherwise None."""
+    """Returns the values of these words if they are `count` decimal numbers. Otherwise returns None."""
     is_right = len(words) == count and all(word.isascii() and word.isdigit() for word in words)
     return [int(word) for word in words] if is_right else None
 
 
 def numbers_after(first: str, answer: str, count: int) -> Optional[list[int]]:
-    """Returns the numbers that follow the first word of an answer. Returns None if the word or the count differs."""
+    """Returns the numbers that follow the first word of an answer. Returns None if the word or the count of numbers
+    differs."""
     words = answer.split()
     return numbers(words[1:], count) if words[:1] == [first] else None
 
@@ -139,8 +141,8 @@ def options(
 ) -> list[str]:
     """Returns the messages that set these options of a new session.
 
-    `error_frames` says whether the session receives error message frames, or is the mask of their classes. 0 and 1 are
-    truth values.
+    `error_frames` says whether the session receives error message frames, or is the mask of their error classes. 0 and
+    1 are truth values.
     """
     if error_frames == 1:
         error_frames = ALL_CLASSES
@@ -158,7 +160,7 @@ def options(
 def filter_words(one: Mapping[str, Any]) -> tuple[int, int]:
     """Returns the identifier and the mask of a python-can filter, with the flags of linux/can.h.
 
-    If the filter has `extended`, only frames with that length of identifier pass. Data frames and remote frames are
+    If the filter has `extended`, only frames whose identifiers have that length pass. Data frames and remote frames are
     treated alike.
     """
     if not isinstance(one, Mapping):
@@ -173,13 +175,13 @@ def filter_words(one: Mapping[str, Any]) -> tuple[int, int]:
     if "extended" in one:
         mask |= EXTENDED
         identifier = identifier | EXTENDED if one["extended"] else identifier & ~EXTENDED
-    # As in candump, bit 29 is not part of a mask.
+    # As in candump, bit 29 of the mask is not used.
     return identifier, mask & ~INVERTED
 
 
 def filter_message(filters: Optional[Filters]) -> Optional[str]:
-    """Returns the message that sets these filters, or None if they don't fit into one message. Without filters all
-    frames pass."""
+    """Returns the message that sets these filters, or None if the filters don't fit into one message. Without filters
+    all frames pass."""
     if filters is not None and (isinstance(filters, (str, Mapping)) or not isinstance(filters, Iterable)):
         raise ValueError(f"filters are a list of dicts, such as [{A_FILTER}], not {filters!r}")
     pairs = [filter_words(one) for one in filters] if filters else [(0, 0)]

@@ -1,7 +1,7 @@
 """A session with a raw socket on an interface of a server: sending, receiving, and the state of the interface.
 
-The python-can interface and a server's own sessions build on this module. It does not need python-can, but uses its
-exceptions if it is installed.
+The python-can interface and a server object's own sessions build on this module. It does not need python-can, but uses
+its exceptions if it is installed.
 """
 
 import errno
@@ -26,9 +26,9 @@ from canbusd._words import (
     UNKNOWN_COMMAND,
 )
 
-# The errno values that the system's own CAN sockets report.
+# The errno values that Linux's own CAN sockets report.
 ERROR_CODES = {NO_BUFFERS: errno.ENOBUFS, BUS_OFF: errno.ENETDOWN, INTERFACE_DOWN: errno.ENETDOWN}
-# A hint for the user, for each refusal that has a short one.
+# Hints for the user, for the refusals that have a short hint.
 CURES = {
     NO_BUFFERS: ": the transmit queue is full; send(msg, timeout=1) waits for room, and a server's txqueue= makes more",
     BUS_OFF: ": restart() brings the interface back, as the server's auto_restart= does",
@@ -48,8 +48,8 @@ def fault(kind: str, text: str, code: Optional[int] = None) -> Exception:
 
 
 def refusal(text: str, after: str = "") -> Exception:
-    """Returns the exception for a refusal by the server. Its `error_code` is the errno of the system's own CAN
-    sockets."""
+    """Returns the exception for a refusal by the server. Its `error_code` is the errno that Linux's own CAN sockets
+    report."""
     return fault("CanOperationError", f"{text}{after}{CURES.get(text, '')}", ERROR_CODES.get(text))
 
 
@@ -59,19 +59,19 @@ def stayed_full(after: str = "") -> Exception:
 
 
 def with_cure(text: str) -> str:
-    """Adds a hint to a text that ends with the refusal for a full record."""
+    """Adds a hint to an error message if it ends with the refusal for a full record."""
     return f"{text}{CURES[RECORD_FULL]}" if text.endswith(RECORD_FULL) else text
 
 
 class RawSession(InjectsFaults):
     """A session in raw mode. `messages` set the options of its socket.
 
-    Unless `notes_own` is None, the server answers each send with the number of its frame. If `notes_own` is true, these
-    numbers are recorded for `is_own`. An older server supports neither. Raises OSError if there is no server, and
-    SessionRefused if the server refuses the session, the interface or an option.
+    Unless `notes_own` is None, the server answers each send with the number of the frame. If `notes_own` is true, these
+    numbers are recorded for `is_own`. An older server does not send these numbers. Raises OSError if there is no
+    server, and SessionRefused if the server refuses the session, the interface or an option.
     """
 
-    # These questions are written together with the first messages of the session, so that nothing happens in between.
+    # These questions are sent together with the first messages of the session, so that nothing happens in between.
     _queries: Sequence[str] = ()
 
     def __init__(
@@ -105,7 +105,7 @@ class RawSession(InjectsFaults):
         return self._connection.is_own(number)
 
     def answers(self, messages: Sequence[str]) -> list[str]:
-        """Sends these messages at once, and returns the reply to each: the empty text for `ok`, the reason for a
+        """Sends these messages at once, and returns the reply to each: the empty string for `ok`, the reason for a
         refusal, or an answer."""
         planted = self.planted
         place = next((place for place, one in enumerate(messages) if planted.is_sent(one)), None) if planted else None
@@ -122,12 +122,12 @@ class RawSession(InjectsFaults):
             raise self._failed("CanOperationError", str(reason)) from None
 
     def answer(self, message: str) -> str:
-        """Sends one message, and returns its reply like `answers`."""
+        """Sends one message and returns its reply, as `answers` does."""
         return self.answers([message])[0]
 
     def frame(self, timeout: Optional[float]) -> Optional[str]:
-        """Returns the next message with a frame, without the text before its `<`. Returns None if no frame arrives
-        within these seconds."""
+        """Returns the next message with a frame, without the characters before its `<`. Returns None if no frame
+        arrives within `timeout` seconds."""
         try:
             began = time.monotonic()
             found = self._connection.frame(timeout)
@@ -141,7 +141,7 @@ class RawSession(InjectsFaults):
             raise self._failed("CanOperationError", str(reason)) from None
 
     def take_frames(self, to: deque[str]) -> int:
-        """Reads the socket once without waiting, appends the frames to `to`, and returns the number of frames."""
+        """Reads the socket once without waiting, appends the frames to `to`, and returns how many frames were appended."""
         try:
             return self._connection.take_frames(to)
         except ConnectionError as reason:
@@ -160,7 +160,7 @@ class RawSession(InjectsFaults):
 
     def send(self, command: str, timeout: Optional[float] = None) -> None:
         """Sends this command, which puts a frame into the transmit queue. If the queue is full, waits up to `timeout`
-        seconds for room."""
+        seconds until it has room."""
         answer = self.answer(command)
         if answer == NO_BUFFERS and timeout is not None and timeout > 0:
             deadline = time.monotonic() + timeout
@@ -175,7 +175,8 @@ class RawSession(InjectsFaults):
             raise refusal(answer)
 
     def send_many(self, commands: Sequence[str], most: int, timeout: Optional[float] = None) -> None:
-        """Puts frames into the transmit queue in order. At most `most` of them wait there at a time, or as many as fit.
+        """Puts frames into the transmit queue in order. At most `most` of them wait there at a time, or as many as the
+        queue has room for.
 
         Without a timeout, the call fails if no frame is accepted for as long as the timeout of the session.
         """
@@ -233,7 +234,7 @@ class RawSession(InjectsFaults):
         return self._parsed(self.answer("load"), load_of)
 
     def close(self) -> None:
-        """Ends the session, and all calls that wait for it. A second call does nothing."""
+        """Ends the session, and all calls that wait for a frame or an answer. A second call does nothing."""
         self._connection.close()
 
     def _answer(self, message: str) -> str:
@@ -247,11 +248,11 @@ class RawSession(InjectsFaults):
         return fault(kind, with_cure(text))
 
     def _departure(self, before: Optional[Stats], deadline: float) -> tuple[Stats, bool]:
-        """Waits until a frame leaves the transmit queue after the counts in `before`, or until the deadline.
+        """Waits until a frame leaves the transmit queue after the counts in `before`, or until the deadline. Returns
+        the new counts, and whether the deadline has passed.
 
-        Returns the new counts, and whether the deadline has passed. The counts don't show whether the bus can still
-        send. So the caller tries a last send, which reports a full record. This function requests only counts, because
-        a refused send adds an entry to the record.
+        The counts don't show whether the bus can still send, so the caller tries a last send, which reports a full
+        record. This function requests only counts, because a refused send would add an entry to the record.
         """
         pause = POLL
         while True:

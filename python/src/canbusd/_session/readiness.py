@@ -10,7 +10,8 @@ PIECE = 65536
 
 
 class Readiness:
-    """A file descriptor that is readable if the socket is readable, or if some frames were read but not taken yet."""
+    """A file descriptor that is readable if the socket is readable, or if there are frames that were read but not taken
+    yet."""
 
     def __init__(self, connected: socket.socket) -> None:
         self._reader, self._writer = os.pipe()
@@ -25,19 +26,19 @@ class Readiness:
         return self._epoll.fileno()
 
     def show(self, is_ready: bool) -> None:
-        """Makes the file descriptor readable. If `is_ready` is false, it is readable only if the socket is."""
+        """If `is_ready` is true, makes the file descriptor readable. Otherwise it is readable only if the socket is."""
         if is_ready and not self._is_shown:
             os.write(self._writer, b"!")
             self._is_shown = True
         elif not is_ready:
-            # This also runs if the descriptor is not marked as readable, because an earlier call may have been
+            # This also runs if the file descriptor is not marked as readable, because an earlier call may have been
             # interrupted.
             self._is_shown = False
             with contextlib.suppress(BlockingIOError):
                 os.read(self._reader, PIECE)
 
     def forget(self, connected: socket.socket) -> None:
-        """Stops watching the socket. Its connection has ended, so it would be readable forever."""
+        """Stops watching the socket. Its connection has ended, so the socket would stay readable indefinitely."""
         self._epoll.unregister(connected)
 
     def close(self) -> None:

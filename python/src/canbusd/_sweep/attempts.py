@@ -1,4 +1,4 @@
-"""Finds the attempts of a test in the records that it wrote."""
+"""Finds the attempts of a test in the records that the test wrote."""
 
 from collections import Counter, defaultdict
 from collections.abc import Iterator
@@ -13,7 +13,7 @@ from canbusd.record import Record, read_record
 
 @dataclass(frozen=True)
 class Attempted:
-    """An attempt to send a frame on a bus of a test."""
+    """An attempt to send a frame, on a bus of a test."""
 
     bus: BusKey
     #: The number of the attempt on its bus.
@@ -23,22 +23,22 @@ class Attempted:
     sender: str
     #: The frame in candump's spelling, such as `123#1122`.
     frame: str
-    #: The number of the frame among the sender's frames with this identifier, and the number of the attempt among all
-    #: attempts of the sender. Both count from 0.
+    #: The index of the frame among the sender's frames with this identifier, and the index of the attempt among all
+    #: attempts of the sender. Both start at 0.
     nth: int
     nth_of_sender: int
-    #: The timestamp of the sender's previous attempt with this identifier, or 0 for the first one.
+    #: The timestamp of the sender's previous attempt with this identifier, or 0 if there is none.
     since: str
     #: The sender's transmit error count before the attempt.
     errors: int
     #: The outcome (`done`, `lastbit`, `destroyed` or `noack`), and the fault in the attempt, which is usually `good`.
     outcome: str
     fault: str
-    #: The other interfaces at which some socket of the test took the frame.
+    #: The other interfaces at which a socket of the test received the frame.
     receivers: tuple[str, ...] = ()
-    #: The start time of the frame. Without a bit rate it is the timestamp.
+    #: The time at which the frame started. Without a bit rate, this is the timestamp.
     began: str = "0.000000"
-    #: Whether the sender is the only interface of the bus.
+    #: Whether the sender is the only interface on the bus.
     is_alone: bool = False
 
     @property
@@ -56,7 +56,7 @@ def attempts_in(folder: Path) -> list[Attempted]:
 
 
 def attempts_of(path: Path) -> Iterator[Attempted]:
-    """Yields the attempts in this record. A file next to it has the facts about the bus."""
+    """Yields the attempts in this record. A file with the ending `.bus` next to it describes the bus."""
     run, _, first = path.stem.partition("-")
     own, names, *numbers = path.with_suffix(".bus").read_text().split(" ")
     rates = Rates(*map(int, numbers)) if numbers else None
@@ -70,7 +70,8 @@ def nanos_before(moment: str, nanos: int) -> str:
 
 
 def receivers_in(record: Record, own: int) -> dict[int, set[int]]:
-    """Maps steps to the interfaces whose sockets took the frame of the step. The first `own` sockets do not count."""
+    """Maps each step to the interfaces at which a socket received the frame of the step. The first `own` sockets are
+    ignored."""
     items, sockets = record.replay.items, record.replay.sockets
     found: dict[int, set[int]] = defaultdict(set)
     for socket, step, error, fate in zip(items.sockets, items.steps, items.errors, items.fates()):
@@ -80,7 +81,7 @@ def receivers_in(record: Record, own: int) -> dict[int, set[int]]:
 
 
 def attempts_on(bus: BusKey, record: Record, own: int = 0) -> Iterator[Attempted]:
-    """Yields the attempts of a record. The first `own` sockets belong to the package and not to the test."""
+    """Yields the attempts of a record. The first `own` sockets were opened by this package and not by the test."""
     names, receivers = record.names, receivers_in(record, own)
     errors = [0] * len(names)
     of_identifier: Counter[tuple[int, str]] = Counter()

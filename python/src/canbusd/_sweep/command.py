@@ -1,4 +1,4 @@
-"""Sweeps a command: it runs in virtual time, with its own server, and its exit status is the verdict."""
+"""Sweeps a command. The command runs in virtual time with its own server, and its exit status is the verdict."""
 
 import os
 import shlex
@@ -13,19 +13,19 @@ from canbusd._placement import Placement
 from canbusd._sweep import worker
 from canbusd._sweep.places import Place, Result
 
-#: How many lines from the end of the command's output a failure shows.
+#: How many of the last lines of the command's output are shown for a failure.
 LAST_LINES = 40
 
 
 class CommandTask:
-    """A command that is swept. Its programs, which run under canbusd-run, find the server through the environment."""
+    """A command that is swept. Its programs run under canbusd-run, and find the server through environment variables."""
 
     is_virtual = True
 
     def __init__(
         self, words: Sequence[str], buses: Sequence[str], options: Mapping[str, Any], given: Sequence[str]
     ) -> None:
-        """Prepares the task. `options` are the arguments of Server, and `given` has the words of the command line that
+        """Prepares the task. `options` are the arguments of Server, and `given` contains the command-line words that
         set them."""
         self._words, self._buses, self._options, self._given = list(words), list(buses), dict(options), list(given)
 
@@ -66,17 +66,17 @@ class CommandTask:
         return Result("failed", message, "\n".join([words, *said]), took), list(sys.modules)
 
     def repeat(self, place: Place) -> str:
-        """Returns the command line that repeats a placement."""
+        """Returns the command line that repeats the run with a placement."""
         words = ["canbusd", "sweep", *self._given, *place.words("--"), *self._buses, "--", *self._words]
         return shlex.join(words)
 
     def kept_as(self, rule: str) -> str:
-        """Returns the line of a script that causes the fault without a sweep."""
+        """Returns the line for a fault script that causes the same fault without a sweep."""
         return f"as a script: {rule}"
 
 
 class PlainTerminal:
-    """Writes a sweep to standard output."""
+    """Writes the report of a sweep to standard output."""
 
     def __init__(self) -> None:
         self.isatty = sys.stdout.isatty()
@@ -98,6 +98,6 @@ class PlainTerminal:
         print(line, flush=True)
 
     def rewrite(self, line: str, **markup: bool) -> None:
-        """Replaces the last line."""
+        """Replaces the last line of the output."""
         print(f"\r\033[K{line}", end="", flush=True)
         self._is_open = True

@@ -1,4 +1,4 @@
-"""Parses the texts of faults that `--canbusd-fault` accepts and that the sweep prints.
+"""Parses the fault descriptions that `--canbusd-fault` accepts and that the sweep prints.
 
     5 lastbit                                a fault at the attempt with this number, in the words of a fault script
     5-20 global bit                          a fault at several consecutive attempts
@@ -35,12 +35,12 @@ NUMBERED = re.compile(rf"(?P<first>[0-9]{{1,8}})(?:-(?P<last>[0-9]{{1,8}}))? (?:
 
 @dataclass(frozen=True)
 class Fault:
-    """A fault of a placement, at a bus of a test."""
+    """A fault of a placement. It affects one bus of a test."""
 
-    #: The bus. None stands for the bus of the test's first server or bench; if this server has several buses, for its
+    #: The bus. None means the bus of the test's first server or bench. If this server has several buses, None means its
     #: first bus.
     bus: Optional[BusKey]
-    #: The line of a fault script, or a line for several attempts in a row, such as `5-20 global bit`.
+    #: The line of a fault script, or a line for several consecutive attempts, such as `5-20 global bit`.
     line: str
 
     def __str__(self) -> str:
@@ -54,19 +54,19 @@ class Fault:
 
     @property
     def reset(self) -> Optional[Reset]:
-        """The program that is killed and started again. None if this is another kind of fault."""
+        """The program that is killed and restarted. None if this is another kind of fault."""
         found = RESET.fullmatch(self.line)
         return Reset(int(found[1]), float(found[2])) if found else None
 
     @property
     def outage(self) -> Optional[Outage]:
-        """The outage of interfaces that are down for some time. None if this is another kind of fault."""
+        """The outage during which interfaces are down. None if this is another kind of fault."""
         found = OUTAGE.fullmatch(self.line)
         return Outage(found["kind"], found["name"], float(found["moment"]), float(found["seconds"])) if found else None
 
     @property
     def lines(self) -> list[str]:
-        """The lines of a fault script. The list is empty for faults that a script can't express."""
+        """The corresponding lines of a fault script. The list is empty for faults that a script can't express."""
         if self.at_sockets or self.reset or self.outage:
             return []
         numbers, _, verdict = self.line.partition(" ")
@@ -75,7 +75,7 @@ class Fault:
 
 
 def parse_fault(text: str) -> Fault:
-    """Parses the text of a fault. Raises ValueError with the reason if the text is wrong."""
+    """Parses a fault from a string. Raises ValueError with the reason if the string is wrong."""
     found = TEXT.fullmatch(text)
     assert found is not None
     bus = (int(found["run"]), found["bus"]) if found["bus"] else None
@@ -97,7 +97,7 @@ def parse_fault(text: str) -> Fault:
 
 
 def lines_by_bus(faults: Iterable[Fault]) -> dict[BusKey, list[str]]:
-    """Returns the script lines of these faults for each bus."""
+    """Maps each bus to the script lines of the faults on that bus."""
     found: dict[BusKey, list[str]] = {}
     for fault in faults:
         found.setdefault(fault.bus or FIRST, []).extend(fault.lines)

@@ -1,4 +1,4 @@
-"""Sweeps tests of pytest."""
+"""Sweeps pytest tests."""
 
 import shlex
 import sys
@@ -16,12 +16,12 @@ from canbusd._sweep import worker
 from canbusd._sweep.places import Place, Result
 from canbusd._sweep.telling import Report
 
-#: The fixtures that use a server, and the fixture that uses a bench.
+#: The names of the fixtures that use a server, and of the fixture that uses a bench.
 SERVER_FIXTURES, BENCH_FIXTURE = {"canbusd", "canbusd_server"}, "canbusd_bench"
 
 
 class ItemTask:
-    """A test of pytest that is swept."""
+    """A pytest test that is swept."""
 
     def __init__(self, item: pytest.Item) -> None:
         self.item = item
@@ -33,12 +33,12 @@ class ItemTask:
 
     @property
     def is_virtual(self) -> bool:
-        """Whether the test runs in virtual time. This is true unless it uses only benches."""
+        """Whether the test runs in virtual time. This is true unless the test uses only benches."""
         names = set(getattr(self.item, "fixturenames", ()))
         return bool(names & SERVER_FIXTURES) or BENCH_FIXTURE not in names
 
     def redirect(self, path: Path) -> None:
-        """Redirects the output that pytest does not capture to a file."""
+        """Redirects the output that pytest does not capture to the file `path`."""
         capture: Any = self.item.config.pluginmanager.getplugin("capturemanager")
         if capture is None:
             worker.point_output_at(path)
@@ -49,29 +49,29 @@ class ItemTask:
         capture.suspend_global_capture()
 
     def carry_out(self, order: worker.Order, given: Placement, room: Path) -> "tuple[Result, list[str]]":
-        """Runs the test, and returns the result and the imported modules."""
+        """Runs the test. Returns the result and the names of the imported modules."""
         config = self.item.config
         config.option.canbusd_keep = "failed" if order.has_page else "none"
         folder = room / "tmp"
         folder.mkdir()
         config._tmp_path_factory._basetemp = folder  # type: ignore[attr-defined]
         began = time.monotonic()
-        # The fixtures of the session were made before the fork. Passing the session as the next item keeps them.
+        # The session fixtures were set up before the fork. Passing the session as the next item keeps them.
         reports = runtestprotocol(self.item, log=False, nextitem=self.item.session)  # type: ignore[arg-type]
         took = time.monotonic() - began
         return result_of(reports, took), list(sys.modules)
 
     def repeat(self, place: Place) -> str:
-        """Returns the command line that repeats a placement."""
+        """Returns the command line that repeats the run with a placement."""
         return shlex.join(["python3", "-m", "pytest", "--canbusd-sweep", *place.words("--canbusd-"), self.name])
 
     def kept_as(self, rule: str) -> str:
-        """Returns the marker that gives an ordinary test the fault of a placement."""
+        """Returns the marker with which an ordinary test gets the fault of a placement."""
         return f'as a test: @pytest.mark.canbusd(.., faults="{rule}")'
 
 
 def result_of(reports: "list[pytest.TestReport]", took: float) -> Result:
-    """Returns the result of a test with these reports. `took` is its duration in seconds."""
+    """Returns the result of a test that has these reports. `took` is the duration of the test in seconds."""
     bad = next((one for one in reports if one.failed), None)
     if bad is None:
         return Result("skipped" if any(one.skipped for one in reports) else "passed", took=took)
@@ -82,7 +82,7 @@ def result_of(reports: "list[pytest.TestReport]", took: float) -> Result:
 
 
 def prepare(session: pytest.Session, items: Iterable[pytest.Item]) -> None:
-    """Makes the fixtures of the session, so that not every run has to make them. Raises UsageError if they leave a
+    """Sets up the session fixtures, so that the runs need not do this again. Raises UsageError if a fixture leaves a
     thread running."""
     session._setupstate.setup(session)  # type: ignore[arg-type]
     for item in items:
@@ -96,7 +96,8 @@ def prepare(session: pytest.Session, items: Iterable[pytest.Item]) -> None:
 
 
 def report_to_pytest(report: Report) -> None:
-    """Reports a test, or a group of its placements, to pytest for its summary, its exit status and JUnit."""
+    """Reports the result of a test, or of a group of its placements, to pytest for its summary, its exit status and
+    JUnit."""
     task = report.test.task
     assert isinstance(task, ItemTask)
     item, base = task.item, report.test.base

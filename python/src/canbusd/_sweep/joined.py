@@ -1,4 +1,4 @@
-"""Joins the results of several parts of a sweep."""
+"""Combines the results of several parts of a sweep."""
 
 import json
 import os
@@ -14,8 +14,8 @@ from canbusd._text import shown
 
 
 def join(paths: Sequence[Path], out: Path) -> list[Facts]:
-    """Joins these parts, writes their sweep.json and page into a folder, and returns the tests. If a file belongs to
-    another sweep, raises ValueError with its name."""
+    """Combines these parts, writes the resulting sweep.json and page to the folder `out`, and returns the tests. If a
+    file belongs to another sweep, raises ValueError that names the file."""
     parts: dict[str, list[tuple[Path, Facts]]] = defaultdict(list)
     for path in paths:
         for test in read_part(path):
@@ -27,7 +27,7 @@ def join(paths: Sequence[Path], out: Path) -> list[Facts]:
 
 
 def read_part(path: Path) -> list[Facts]:
-    """Returns the tests in a file. Raises ValueError if the file is not a sweep.json."""
+    """Returns the tests in a sweep.json file. Raises ValueError if the file is not a sweep.json."""
     try:
         found = json.loads(path.read_text(encoding="utf-8"))
     except ValueError:
@@ -39,7 +39,7 @@ def read_part(path: Path) -> list[Facts]:
 
 
 def joined(parts: Sequence[tuple[Path, Facts]], out: Path) -> Facts:
-    """Returns a test with the placements of all parts, in the order of a sweep without parts."""
+    """Returns the results of a test with the placements of all parts, in the order of a sweep without parts."""
     (first, test), *others = parts
     for path, other in others:
         if records_of(other) != records_of(test):
@@ -54,19 +54,20 @@ def joined(parts: Sequence[tuple[Path, Facts]], out: Path) -> Facts:
 
 
 def records_of(test: Facts) -> Any:
-    """Returns the checksum of the records from the test's run without a fault."""
+    """Returns the checksum of the records that the test wrote in its run without a fault."""
     return (test["base"] or {}).get("records")
 
 
 def moved_places(path: Path, test: Facts, out: Path) -> Iterator[Facts]:
-    """Yields the placements of a part. The paths of their pages are changed so that they are relative to `out`."""
+    """Yields the placements of a part, with the paths of their pages relative to `out`."""
     for place in test["placements"]:
         page = os.path.relpath(path.parent / place["page"], out) if place["page"] else ""
         yield {**place, "page": page}
 
 
 def lines_of(test: Facts) -> Iterator[str]:
-    """Yields the results of a test as text: one line for the test, and three lines for each failing group."""
+    """Yields the lines that report the results of a test: one line for the test, and three lines for each failing
+    group."""
     base, places = test["base"], test["placements"]
     if base is None or base["outcome"] != "passed":
         yield f"{test['test']}: {base['outcome'] if base else 'not run'} without a fault"
@@ -92,6 +93,6 @@ def failures_in(test: Facts) -> dict[str, list[Facts]]:
 
 
 def is_bad(test: Facts) -> bool:
-    """Returns whether a test fails without a fault, or in a group that is not known to fail."""
+    """Returns whether a test fails without a fault, or fails in a group that is not known to fail."""
     is_failed = test["base"] is None or test["base"]["outcome"] == "failed"
     return is_failed or any(group not in test["known"] for group in failures_in(test))

@@ -1,4 +1,4 @@
-"""Finds the tests of pytest that are swept, and reads their markers."""
+"""Finds the pytest tests that are swept, and reads their markers."""
 
 from collections.abc import Iterable, Sequence
 from typing import Any, Optional
@@ -15,7 +15,7 @@ ARGUMENTS = ("faults", "senders", "ids", "known", "pairs")
 
 def swept_tests(items: Iterable[pytest.Item], all_of_them: bool, kinds: Optional[Sequence[str]]) -> list[Test]:
     """Returns the tests that have the marker, or all tests that use a server or a bench. If kinds of faults are given,
-    the tests use these kinds."""
+    they apply to all of these tests."""
     found = []
     for item in items:
         marker = item.get_closest_marker("canbusd_sweep")
@@ -46,12 +46,12 @@ def test_of(item: pytest.Item, given: dict[str, Any], args: Sequence[Any], kinds
 
 
 def listed(value: Any) -> list[Any]:
-    """Returns a list. A single value becomes a list with one element."""
+    """Returns the value as a list. A single value becomes a list with one element."""
     return [value] if isinstance(value, (str, int)) else list(value)
 
 
 def identifier_text(value: Any) -> str:
-    """Returns an identifier in the spelling of records, with 3 or 8 hexadecimal digits."""
+    """Returns an identifier as it appears in records, with 3 or 8 hexadecimal digits."""
     if isinstance(value, str):
         return value.upper()
     return f"{value:03X}" if value <= 0x7FF else f"{value:08X}"

@@ -12,9 +12,9 @@ from canbusd._sweep.places import ALL_KINDS
 if TYPE_CHECKING:
     from canbusd._sweep.sweep import Options
 
-#: The folder for the page of the sweep, below the folder in which pytest was started.
+#: The folder for the page of the sweep, inside the folder in which pytest was started.
 OUT = "canbusd-sweep"
-#: The options that need --canbusd-sweep: name, type, metavar and help.
+#: The options that require --canbusd-sweep: name, type, metavar and help.
 OPTIONS: tuple[tuple[str, Any, str, str], ...] = (
     ("faults", str, "KINDS", f"kinds of faults in place of those of the tests: {', '.join(ALL_KINDS)}"),
     ("jobs", int, "N", "how many runs at once (default: one for each processor)"),
@@ -52,8 +52,8 @@ def add_sweep_options(group: Any) -> None:
 
 
 def is_swept(config: pytest.Config) -> bool:
-    """Returns whether pytest carries out a sweep. Raises UsageError for options that need a sweep, or that a sweep does
-    not allow."""
+    """Returns whether pytest performs a sweep. Raises UsageError for options that require a sweep, and for options that
+    a sweep does not allow."""
     is_wanted = bool(config.getoption("--canbusd-sweep") or config.getoption("--canbusd-sweep-all"))
     if not is_wanted:
         given = [
@@ -74,8 +74,7 @@ def is_swept(config: pytest.Config) -> bool:
 
 
 def begin(config: pytest.Config) -> None:
-    """Restarts pytest with the library that runs in virtual time need, unless it was already started with the
-    library."""
+    """Restarts pytest with the library for virtual time, unless it was already started with this library."""
     from canbusd._sweep import worker
 
     if worker.is_ready():
@@ -87,7 +86,7 @@ def begin(config: pytest.Config) -> None:
 
 
 def carry_out(session: pytest.Session) -> None:
-    """Carries out the sweep of a session."""
+    """Performs the sweep of a session."""
     from canbusd._sweep.items import prepare, report_to_pytest
     from canbusd._sweep.markers import swept_tests
     from canbusd._sweep.sweep import Sweep
@@ -113,7 +112,7 @@ def carry_out(session: pytest.Session) -> None:
 
 
 def read_options(config: pytest.Config) -> "Options":
-    """Returns the options of the command line. If one is wrong, raises UsageError with its name."""
+    """Returns the sweep's command-line options. If an option is wrong, raises UsageError that names it."""
     from canbusd._sweep.faults_given import parse_fault
     from canbusd._sweep.sweep import JITTER, Options, given_place
 
@@ -140,7 +139,8 @@ def read_options(config: pytest.Config) -> "Options":
 
 
 def numbered(config: pytest.Config, name: str, usual: int, least: int) -> int:
-    """Returns the number that an option has. Raises UsageError if the number is too small."""
+    """Returns the value of a numeric option, or `usual` if it is not given. Raises UsageError if the value is too
+    small."""
     value = config.getoption(f"--canbusd-sweep-{name}")
     if value is None:
         return usual
@@ -150,8 +150,8 @@ def numbered(config: pytest.Config, name: str, usual: int, least: int) -> int:
 
 
 def shard_of(text: Optional[str]) -> Optional[tuple[int, int]]:
-    """Parses a part such as 2/4, and returns its number and the number of parts. Raises ValueError for any other
-    text."""
+    """Parses a part such as 2/4. Returns the index of the part, starting at 1, and how many parts there are. Raises
+    ValueError for any other string."""
     if text is None:
         return None
     found = re.fullmatch("([0-9]+)/([0-9]+)", text)

@@ -1,4 +1,4 @@
-"""The placements of a sweep: the choices of a fault and an attempt."""
+"""The placements of a sweep: combinations of a fault and an attempt."""
 
 import random
 from collections import Counter
@@ -11,9 +11,9 @@ from canbusd._sweep.faults_given import Fault
 
 #: The number of consecutive attempts that a burst destroys.
 BURST = 16
-#: Times in microseconds: how long a sender is down, how long before the start of a frame other interfaces go down so
-#: that they do not acknowledge it, and how long after the end of the frame they come up. At that time the frame is not
-#: sent again yet.
+#: Times in microseconds: how long a sender is down; how long before the start of a frame the other interfaces go down
+#: so that they do not acknowledge it; and how long after the end of the frame they come up. At that time the frame is
+#: not sent again yet.
 DOWN_MICROS, MICROS_BEFORE, MICROS_AFTER = 100_000, 2, 1
 #: The increase of the transmit error count after a failed attempt (ISO 11898-1), and the count at which the sender goes
 #: bus off.
@@ -26,17 +26,17 @@ def destroyed(one: Attempted) -> str:
 
 
 def twice(one: Attempted) -> str:
-    """Returns the script line after which receivers have the frame twice."""
+    """Returns the script line after which receivers accept the frame twice."""
     return f"{one.number} lastbit"
 
 
 def burst(one: Attempted) -> str:
-    """Returns the line that destroys this attempt and those that follow it."""
+    """Returns the line that destroys this attempt and the attempts that follow it."""
     return f"{one.number}-{one.number + BURST - 1} global bit"
 
 
 def bus_off(one: Attempted) -> str:
-    """Returns the rule that destroys all attempts of the sender from this one on, until the sender is bus off."""
+    """Returns the rule that destroys all attempts of the sender, from this attempt on, until the sender is bus off."""
     count = -(-(OFF - one.errors) // STEP)
     skip = f"skip {one.nth_of_sender} " if one.nth_of_sender else ""
     return f"next {count} from {one.sender} {skip}global bit"
@@ -44,11 +44,11 @@ def bus_off(one: Attempted) -> str:
 
 @dataclass(frozen=True)
 class Kind:
-    """A kind of fault: a function that makes the line for an attempt, and a description."""
+    """A kind of fault: a function that returns the line for an attempt, and a description."""
 
     line: Callable[[Attempted], str]
     meaning: str
-    #: The verdict for a fault rule that leads to the same record. Empty if there is no such verdict.
+    #: The verdict of a fault rule that leads to the same record. Empty if there is no such verdict.
     verdict: str = ""
 
 
@@ -58,7 +58,7 @@ KINDS = {
     "burst": Kind(burst, f"{BURST} attempts in a row are destroyed: frames come late, a sender may be error passive"),
     "busoff": Kind(bus_off, "what its sender tries is destroyed until it is bus off"),
 }
-#: Other kinds, which may have several faults at an attempt, with their descriptions.
+#: The other kinds and their descriptions. They may have several faults at one attempt.
 OTHERS = {
     "missed": "the receive queues of a node lose the frame, as by an overrun",
     "late": "a node has the frame 10 ms later, as one that does other work",
@@ -67,17 +67,18 @@ OTHERS = {
     "down": f"the sender's interface goes down with this frame, and up {DOWN_MICROS // 1000} ms later",
     "noack": "nobody acknowledges the frame: all others of the bus are down for this attempt",
 }
-#: Kinds that only servers support, because a bench has no times between its calls at which an interface could go down.
+#: Kinds for which only servers can be used, because a bench has no times between its calls at which an interface could
+#: go down.
 OF_SERVERS = ("down", "noack")
 #: The word before the name of the receiver in the kind of a placement.
 BY = {"missed": "by", "late": "at"}
 ALL_KINDS = (*KINDS, *OTHERS)
-#: The kinds for a test that does not name any.
+#: The kinds for a test that does not specify any.
 USUAL = ("destroyed", "twice", "burst")
 
 
 def known_kinds(names: Sequence[str]) -> Sequence[str]:
-    """Returns the names of kinds unchanged. Raises ValueError if one of them is unknown."""
+    """Returns the names of kinds unchanged. Raises ValueError if a name is unknown."""
     wrong = next((name for name in names if name not in ALL_KINDS), None)
     if wrong is not None:
         raise ValueError(f"no kind of fault {wrong!r}; there are {', '.join(ALL_KINDS)}")
@@ -90,10 +91,10 @@ class Result:
 
     #: The outcome: `passed`, `failed` or `skipped`.
     outcome: str
-    #: The first line of the failure, and the complete output of pytest about it.
+    #: The first line of the failure, and pytest's complete output about it.
     message: str = ""
     long: str = ""
-    #: The duration of the test in its own (virtual) time, in seconds.
+    #: The duration of the test in seconds of its own (virtual) time.
     took: float = 0.0
     #: The number of programs that the test started.
     programs: int = 0
@@ -103,23 +104,23 @@ class Result:
 
 @dataclass
 class Place:
-    """A fault at an attempt of a test, or several faults, or another order of simultaneous events; and the result of
-    the run."""
+    """A fault at an attempt of a test, several faults, or another order of simultaneous events. Also stores the result
+    of the run."""
 
     kind: str
     faults: Sequence[Fault]
     attempts: Sequence[Attempted] = ()
     seed: int = 0
     jitter: int = 0
-    #: Whether the placement is tried first. This applies to the first two attempts of an identifier, the middle one and
-    #: the last one.
+    #: Whether the placement is tried first. This is true for the first two attempts with an identifier, the middle one
+    #: and the last one.
     is_sample: bool = True
     result: Optional[Result] = field(default=None, compare=False)
-    #: Whether a repetition led to the same failure.
+    #: Whether a repetition of the run failed in the same way.
     is_confirmed: bool = field(default=True, compare=False)
-    #: The attempts of the resulting run. They are recorded only if second faults are wanted.
+    #: The attempts of the run with this placement. They are stored only if second faults are wanted.
     later: Sequence[Attempted] = field(default=(), compare=False)
-    #: The path of the page of the run, if there is one.
+    #: The path of the run's page, or the empty string if there is no page.
     page: str = field(default="", compare=False)
 
     @property
@@ -130,7 +131,7 @@ class Place:
 
     @property
     def key(self) -> tuple[str, ...]:
-        """The key of the placement among the placements of its test."""
+        """A key that distinguishes the placement from the other placements of its test."""
         return self.kind, str(self.seed), str(self.jitter), *map(str, self.faults)
 
     @property
@@ -142,7 +143,7 @@ class Place:
         return " and ".join(map(str, self.attempts)) or f"seed {self.seed}, jitter {self.jitter} microseconds"
 
     def words(self, prefix: str) -> list[str]:
-        """Returns the options that repeat the placement. Their names begin with `prefix`."""
+        """Returns the options that repeat the run. The names of the options begin with `prefix`."""
         words = [f"{prefix}seed", str(self.seed)] if self.seed else []
         words += [f"{prefix}jitter", str(self.jitter)] if self.jitter else []
         for fault in self.faults:
@@ -150,7 +151,7 @@ class Place:
         return words
 
     def as_rule(self) -> str:
-        """Returns a fault rule with which an ordinary test gets the same fault, or the empty text if there is no such
+        """Returns a fault rule that causes the same fault in an ordinary test, or the empty string if there is no such
         rule."""
         if len(self.attempts) != 1 or self.faults[0].bus is not None:
             return ""
@@ -165,10 +166,9 @@ class Place:
 
 
 def pairs_of(places: Sequence[Place], count: int, draw: random.Random) -> Iterator[Place]:
-    """Yields placements with two faults. The second fault is at an attempt of a run in which the test passed with the
-    first fault."""
+    """Yields placements with two faults. The second fault is at an attempt of a run that passed with the first fault."""
     firsts = [one for one in places if one.later and one.result is not None and one.result.outcome == "passed"]
-    # A fault that makes the test fail by itself tells nothing new as a second fault.
+    # If a fault alone makes the test fail, it reveals nothing new as a second fault.
     bad = {one.group for one in places if one.has_failed}
     seen: set[tuple[str, ...]] = set()
     for _ in range(count if firsts else 0):
@@ -200,8 +200,8 @@ def seconds_of(micros: int) -> str:
 
 
 def faults_at(kind: str, one: Attempted, programs: int) -> Iterator[tuple[str, str]]:
-    """Yields the faults of a kind at an attempt. Each is a pair of the kind, with the receiver or program concerned,
-    and the line."""
+    """Yields the faults of a kind at an attempt. Each fault is a pair: the kind, including the receiver or program that
+    it affects, and the line."""
     if kind in ("missed", "late"):
         for receiver in one.receivers:
             yield f"{kind} {BY[kind]} {receiver}", f"{kind} {receiver} {one.identifier} {one.moment}"
@@ -229,8 +229,8 @@ def places_at(
     ids: Sequence[str] = (),
     programs: int = 0,
 ) -> Iterator[Place]:
-    """Yields the placements of these kinds at each attempt without a fault. `senders` and `ids` limit the attempts
-    unless they are empty. `programs` is the number of programs that the test starts."""
+    """Yields the placements of these kinds at every attempt that had no fault. `senders` and `ids` limit the attempts
+    unless they are empty. `programs` is how many programs the test starts."""
     buses = {one.bus for one in attempts}
     count = Counter((one.bus, one.sender, one.identifier) for one in attempts)
     for kind in kinds:

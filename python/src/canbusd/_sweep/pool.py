@@ -1,4 +1,4 @@
-"""Carries out the runs of a sweep, several at a time. Each run has its own processor."""
+"""Performs the runs of a sweep, several at a time. Each run gets its own processor."""
 
 import os
 import select
@@ -16,16 +16,15 @@ from canbusd._sweep import worker
 from canbusd._sweep.places import Place, Result
 from canbusd._sweep.tests import Test
 
-#: The limit for the real time of a run: at least this many seconds, plus this many times the duration of the run
-#: without a fault.
+#: The limit for the real time of a run is LEAST_LIMIT seconds plus TIMES times the duration of the run without a fault.
 LEAST_LIMIT, TIMES = 60.0, 50.0
-#: The same limits for the test's own (virtual) time.
+#: The same two values for the limit of the test's own (virtual) time.
 LEAST_UNTIL, TIMES_UNTIL = 60.0, 10.0
 
 
 @dataclass
 class Job:
-    """A run that waits to be carried out: a test with a placement, or without a fault."""
+    """A run that has not started yet: a test with a placement, or without a fault."""
 
     test: Test
     place: Optional[Place] = None
@@ -49,7 +48,7 @@ class Job:
 
 @dataclass
 class Run:
-    """A run that has started and not ended yet."""
+    """A run that has started and has not ended yet."""
 
     job: Job
     pid: int
@@ -61,7 +60,7 @@ class Run:
 
 @dataclass
 class Outcome:
-    """A run that has ended. Its records stay in the folder `room` until the next run ends."""
+    """A run that has ended. The records of the run stay in the folder `room` until `done` has returned."""
 
     job: Job
     result: Result
@@ -71,21 +70,21 @@ class Outcome:
 
 
 class Pool:
-    """Carries out runs. After the end, or after an interruption, no processes or files of the runs are left."""
+    """Performs runs. After the end or an interruption, no processes or files of the runs remain."""
 
     def __init__(self, at_once: int, until: Optional[float]) -> None:
-        """Prepares `at_once` processors and a folder. After the time `until` no further run starts."""
+        """Prepares `at_once` processors and a folder. No further run starts after the time `until`."""
         processors = sorted(os.sched_getaffinity(0))
         self._free = deque(processors[number % len(processors)] for number in range(at_once))
         self._running: dict[int, Run] = {}
         self._until = until
         self._folder = Path(tempfile.mkdtemp(prefix="canbusd-sweep-"))
         self._number = 0
-        #: The number of runs that were not started because the time was over.
+        #: The number of runs that were not started because the time was up.
         self.not_begun = 0
 
     def carry_out(self, jobs: Iterable[Job], done: Callable[[Outcome], Iterable[Job]]) -> None:
-        """Carries out these runs, and further runs that `done` returns when a run ends."""
+        """Performs these runs, and the further runs that `done` returns when a run ends."""
         waiting = deque(jobs)
         try:
             while waiting or self._running:
@@ -120,8 +119,8 @@ class Pool:
         self._running[os.pidfd_open(pid)] = Run(job, pid, room, processor, time.monotonic())
 
     def _ended(self) -> list[int]:
-        """Waits until some run ends or exceeds its limit, and kills runs that exceed it. Returns the file descriptors
-        of runs that have ended."""
+        """Waits until a run ends or exceeds its time limit, and kills the runs that exceed it. Returns the file
+        descriptors of the runs that have ended."""
         poll = select.poll()
         for pidfd in self._running:
             poll.register(pidfd, select.POLLIN)
@@ -160,7 +159,7 @@ def kill_group(pid: int) -> None:
 
 
 def end_children(known: set[int]) -> None:
-    """Kills all children of this process except `known`. Processes that a run left behind became children of this
+    """Kills all children of this process except `known`. Processes that outlived their run have become children of this
     process."""
     for _ in range(100):
         with open(f"/proc/self/task/{os.getpid()}/children", encoding="ascii") as file:

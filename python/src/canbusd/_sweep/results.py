@@ -1,5 +1,5 @@
-"""Reads and writes sweep.json. The file has the results of a sweep, for `-resume`, `canbusd sweep --join` and other
-tools."""
+"""Reads and writes sweep.json. The file contains the results of a sweep, for `-resume`, `canbusd sweep --join` and
+other tools."""
 
 import json
 from collections.abc import Iterable, Mapping, Sequence
@@ -14,12 +14,12 @@ from canbusd._whole_file import replaced
 
 #: The version of the file format. Files with another version are ignored.
 FORMAT = 1
-#: A test or a placement, as it is stored in the file.
+#: A test or a placement in the form in which it is stored in the file.
 Facts = Mapping[str, Any]
 
 
 def write_results(path: Path, tests: Sequence[Facts]) -> None:
-    """Writes the results of tests. The file is replaced only after all of it is written."""
+    """Writes the results of tests. The old file is replaced only after the new one is complete."""
     path.parent.mkdir(parents=True, exist_ok=True)
     with replaced(path) as file:
         file.write(json.dumps({"format": FORMAT, "tests": tests}).encode())
@@ -36,7 +36,7 @@ def write_page(path: Path, tests: Sequence[Facts]) -> None:
 
 
 def test_facts(test: Test) -> Facts:
-    """Returns the results of a test in the form of the file."""
+    """Returns the results of a test as they are stored in the file."""
     return {
         "test": test.name,
         "base": None if test.base is None else asdict(test.base),
@@ -47,7 +47,7 @@ def test_facts(test: Test) -> Facts:
 
 
 def place_facts(test: Test, place: Place) -> Facts:
-    """Returns the results of a placement in the form of the file."""
+    """Returns the results of a placement as they are stored in the file."""
     return {
         "kind": place.kind,
         "group": place.group,
@@ -65,12 +65,12 @@ def place_facts(test: Test, place: Place) -> Facts:
 
 
 def bus_text(bus: BusKey) -> str:
-    """Returns a bus of a test as text."""
+    """Formats a bus of a test as a string: the index of its server or bench, and the bus's name."""
     return f"{bus[0]}:{bus[1]}"
 
 
 def read_results(path: Path, tests: Iterable[Test]) -> None:
-    """Copies results from an earlier sweep to the placements of each test whose run without a fault left the same
+    """Copies results from an earlier sweep to the placements of each test whose run without a fault wrote the same
     records."""
     try:
         found = json.loads(path.read_text())
@@ -91,5 +91,5 @@ def read_results(path: Path, tests: Iterable[Test]) -> None:
 
 
 def key_of(facts: Facts) -> tuple[str, ...]:
-    """Returns the key of a placement among the placements of its test."""
+    """Returns a key that distinguishes a placement from the other placements of its test."""
     return facts["kind"], str(facts["seed"]), str(facts["jitter"]), *facts["faults"]

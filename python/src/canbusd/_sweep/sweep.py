@@ -1,4 +1,4 @@
-"""A sweep of tests: each test runs without a fault and then with each placement, and the results are reported."""
+"""A sweep of tests: each test runs first without a fault and then with each placement, and the results are reported."""
 
 import os
 import random
@@ -19,7 +19,7 @@ from canbusd._sweep.results import Facts, read_results, test_facts, write_page, 
 from canbusd._sweep.telling import Telling
 from canbusd._sweep.tests import Test
 
-#: The default jitter in microseconds for runs with other orders of simultaneous events.
+#: The default jitter in microseconds for runs in which simultaneous events are in another order.
 JITTER = 500
 #: The minimum time in seconds between two updates of the file with the results so far.
 BETWEEN_NOTES = 2.0
@@ -52,11 +52,11 @@ class Sweep:
         self._noted = 0.0
         self._modules: set[str] = set()
         self._groups: dict[tuple[str, str], list[Place]] = defaultdict(list)
-        #: The placements whose repetition did not leave the same records.
+        #: The placements whose repetition did not write the same records.
         self.differences: list[str] = []
 
     def carry_out(self) -> None:
-        """Carries out the sweep, and reports its results."""
+        """Performs the sweep, and reports its results."""
         worker.adopt_orphans()
         worker.warm(())
         pool = Pool(self._options.at_once, self._until)
@@ -66,7 +66,7 @@ class Sweep:
             pool.end()
 
     def _run_all(self, pool: Pool) -> None:
-        """Runs each test without a fault, and then its placements."""
+        """Runs each test without a fault, and then with its placements."""
         self._telling.begin(len(self._tests))
         if self._options.given is None:
             pool.carry_out([Job(test) for test in self._tests], self._base_done)
@@ -88,7 +88,7 @@ class Sweep:
         self._telling.end(self._tests, took, pool.not_begun, self._options.seconds, self.differences)
 
     def _base_done(self, outcome: Outcome) -> Iterable[Job]:
-        """Stores the result of a run without a fault."""
+        """Stores the result of a run without a fault, and returns no further runs."""
         test = outcome.job.test
         test.base, test.real_seconds = outcome.result, outcome.seconds
         if outcome.result.outcome == "passed":
@@ -97,7 +97,7 @@ class Sweep:
         return ()
 
     def _make_places(self) -> None:
-        """Makes the placements for each test that passed without a fault."""
+        """Creates the placements for each test that passed without a fault."""
         options = self._options
         for test in self._tests:
             if options.given is not None:
@@ -118,7 +118,8 @@ class Sweep:
             read_results(options.out / "sweep.json", self._tests)
 
     def _jobs(self) -> Iterator[Job]:
-        """Yields the runs. They alternate between the tests, so that all tests share a time limit."""
+        """Yields the runs of all placements. They alternate between the tests, so that a time limit affects all tests
+        equally."""
         waiting = [
             iter([place for place in test.places if place.result is None and (place.is_sample or not self._is_quick)])
             for test in self._tests
@@ -134,7 +135,7 @@ class Sweep:
             left = still
 
     def _note(self, is_due: bool = False) -> None:
-        """Writes the results so far from time to time, so that a killed sweep can be resumed."""
+        """Writes the results so far to the file at regular intervals, so that a killed sweep can be resumed."""
         now = time.monotonic()
         if self._options.given is None and (is_due or now - self._noted >= BETWEEN_NOTES):
             self._noted = now
@@ -160,8 +161,8 @@ class Sweep:
         return self._options.is_quick and self._options.given is None
 
     def _done(self, outcome: Outcome) -> Iterable[Job]:
-        """Stores the result of a run with a placement. In a quick sweep, if the samples of a group differ, returns the
-        rest of the group."""
+        """Stores the result of a run with a placement. In a quick sweep, if the samples of a group have different
+        outcomes, returns runs for the rest of the group."""
         test, place = outcome.job.test, outcome.job.place
         assert place is not None
         place.result = outcome.result
@@ -181,7 +182,7 @@ class Sweep:
         return [Job(test, one) for one in rest]
 
     def _check(self, pool: Pool) -> None:
-        """Repeats some placements and compares their records."""
+        """Repeats the runs of some placements and compares their records."""
         done = [(test, place) for test in self._tests for place in test.places if place.result is not None]
         count = min(self._options.checks, len(done))
 
@@ -196,7 +197,7 @@ class Sweep:
         self.differences.sort()
 
     def _confirm(self, pool: Pool) -> None:
-        """Repeats the first failure of each group, and keeps the page of the run."""
+        """Repeats the first failed run of each group, and keeps its page."""
         jobs = []
         for test in self._tests:
             firsts: dict[str, Place] = {}
@@ -215,8 +216,8 @@ class Sweep:
         pool.carry_out(jobs, take)
 
     def _kept_page(self, outcome: Outcome, name: str) -> str:
-        """Copies the page and the records of a run next to the page of the sweep. Returns the relative path of the
-        copied page."""
+        """Copies the page and the records of a run to a folder next to the sweep's page. Returns the relative path of
+        the copied page."""
         found = sorted(outcome.room.glob("tmp/**/*.html"))
         if not found:
             return ""
@@ -230,5 +231,5 @@ class Sweep:
 
 
 def given_place(faults: Iterable[Fault], seed: int, jitter: int) -> Place:
-    """Returns the placement that the command line specifies."""
+    """Returns the placement that the command line describes."""
     return Place("given", list(faults), (), seed, jitter)

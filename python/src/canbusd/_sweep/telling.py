@@ -10,10 +10,10 @@ from canbusd._sweep.places import Place
 from canbusd._sweep.tests import Test
 from canbusd._text import times
 
-#: If a kind has more groups than this, they are combined for each sender. The second number is how many different
-#: failures of a group are shown.
+#: If a kind has more groups than this, they are combined by sender. The second number is how many different failures
+#: are shown for a group.
 MOST_GROUPS, MOST_FAILURES = 8, 2
-#: Seconds between two progress lines, on a terminal and elsewhere.
+#: The time in seconds between two progress lines, on a terminal and elsewhere.
 OFTEN, RARELY = 0.2, 30.0
 
 
@@ -32,7 +32,7 @@ class Terminal(Protocol):
         """Writes a line."""
 
     def rewrite(self, line: str, **markup: bool) -> None:
-        """Replaces the last line."""
+        """Replaces the last line of the output."""
 
 
 class Report(NamedTuple):
@@ -45,24 +45,24 @@ class Report(NamedTuple):
 
 
 class Telling:
-    """Writes the progress of a sweep and its results."""
+    """Writes the progress and the results of a sweep."""
 
     def __init__(self, terminal: Terminal, page: str, report: Callable[[Report], None]) -> None:
-        """Prepares the output. `page` is the path of the page, or the empty text if there is none. `report` is called
+        """Prepares the output. `page` is the path of the page, or the empty string if there is none. `report` is called
         with each failure and each success."""
         self._terminal, self._page, self._report = terminal, page, report
         self._began = self._last = time.monotonic()
-        #: The number of failures that no marker declares as known.
+        #: The number of failures that no marker lists as known.
         self.failures = 0
         self._reports: list[Report] = []
 
     def begin(self, count: int) -> None:
-        """Writes that the sweep begins."""
+        """Writes that the sweep begins, with the number of tests."""
         self._terminal.ensure_newline()
         self._terminal.write_line(f"canbusd sweep: {count} test{'' if count == 1 else 's'} without a fault first")
 
     def progress(self, tests: Sequence[Test]) -> None:
-        """Writes the progress of the sweep from time to time."""
+        """Writes the progress of the sweep at regular intervals."""
         now = time.monotonic()
         is_terminal = self._terminal.isatty
         if now - self._last < (OFTEN if is_terminal else RARELY):
@@ -134,7 +134,7 @@ class Telling:
                 self._terminal.write_line(f"  {group}: known to fail, and none of {len(places)} does now", yellow=True)
 
     def _tell_given(self, test: Test, place: Place) -> None:
-        """Writes the result of a single placement that was repeated."""
+        """Writes the result of a single placement that the command line describes."""
         result = place.result
         assert result is not None
         self._reports.append(Report(test, "", result.outcome, result.long))
@@ -163,7 +163,7 @@ class Telling:
 
 
 def line_of_test(name: str, attempts: int, placements: int, run: int, failed: int) -> str:
-    """Returns the line for a test that passes without a fault."""
+    """Returns the line for a test that passed without a fault."""
     return f"{name}: {times(attempts, 'attempt')}, {times(placements, 'placement')}, {run} run, {failed} failed"
 
 
@@ -173,7 +173,7 @@ def line_of_group(group: str, failed: int, placements: int, is_known: bool) -> s
 
 
 def groups_of(places: Sequence[Place]) -> dict[str, list[Place]]:
-    """Returns the placements of each group. If a kind has many groups, they are combined for each sender."""
+    """Maps each group to its placements. If a kind has many groups, they are combined by sender."""
     by_kind: dict[str, set[str]] = defaultdict(set)
     for place in places:
         by_kind[place.kind].add(place.group)
@@ -188,8 +188,8 @@ def groups_of(places: Sequence[Place]) -> dict[str, list[Place]]:
 
 
 def failures_of(places: Sequence[Place]) -> list[tuple[str, int]]:
-    """Returns the most frequent failures of placements, each with its count. Failures that differ only in numbers are
-    combined."""
+    """Returns the most frequent failures of placements, each with its count. Failures that differ only in numbers count
+    as the same failure."""
     first: dict[str, str] = {}
     count: Counter[str] = Counter()
     for place in places:

@@ -22,7 +22,7 @@ class Test:
     #: The groups that are known to fail.
     known: Sequence[str] = ()
     pairs: int = 0
-    #: The result of the run without a fault, its attempts, and its duration in seconds of real time.
+    #: The result of the run without a fault, the attempts of this run, and its duration in seconds of real time.
     base: Optional[Result] = None
     attempts: list[Attempted] = field(default_factory=list)
     real_seconds: float = 0.0

@@ -1,8 +1,8 @@
-"""Carries out one run of a sweep in a forked child. The parent has already imported and collected everything that a run
+"""Performs one run of a sweep in a forked child. The parent has already imported and collected everything that a run
 needs.
 
-A test with a server runs in its own virtual time. The child forks the process that carries out the test, and then
-becomes `canbusd-run --virtual`, which coordinates the run. A test that uses only benches needs neither a clock nor a
+A test with a server runs in its own virtual time. The child forks the process that performs the test, and then becomes
+`canbusd-run --virtual`, which coordinates the run. A test that uses only benches needs neither a clock nor a
 coordinator.
 """
 
@@ -31,7 +31,7 @@ from canbusd.virtual import OPTIONS, SETTING, python_words
 RESULT, SAID = "result.json", "said"
 #: The environment variable that loads a library when pytest is restarted, and the name of that library.
 PRELOAD, LIBRARY = "LD_PRELOAD", "libcanbusd-virtual.so"
-#: A run is given up if a thread uses this many seconds of processor time without waiting, or if nothing happens for this
+#: A run is aborted if a thread uses this many seconds of processor time without waiting, or if nothing happens for this
 #: many seconds.
 STALL = 5
 # Of prctl(2).
@@ -62,20 +62,21 @@ def is_ready() -> bool:
 
 def start_anew(words: Sequence[str]) -> NoReturn:
     """Restarts this Python with pytest's arguments in `words` and with the library for virtual time. The library does
-    nothing until a child begins a run. After the restart, addresses and the order of sets are the same each time."""
+    nothing until a child begins a run. After the restart, memory addresses and the order of sets are the same every
+    time."""
     os.environ.setdefault("PYTHONHASHSEED", "0")
     program = find_program("canbusd-run")
     os.execv(program, [program, "--ready", "--", *python_words(words)])
 
 
 def adopt_orphans() -> None:
-    """Makes this process the parent of orphaned descendants, so that it can kill them."""
+    """Makes this process the parent of orphaned descendants, so that it can kill these."""
     ctypes.CDLL(None).prctl(PR_SET_CHILD_SUBREAPER, 1)
 
 
 def warm(modules: Iterable[str]) -> None:
-    """Imports the modules that a run imported, so that later runs have them already. The garbage collector then ignores
-    all present objects."""
+    """Imports the modules that an earlier run imported, so that later runs need not import them. The garbage collector
+    then ignores all existing objects."""
     with warnings.catch_warnings():
         warnings.simplefilter("ignore")
         for name in modules:
@@ -88,7 +89,7 @@ def warm(modules: Iterable[str]) -> None:
 
 
 class Task(Protocol):
-    """A test of pytest or a command that is swept."""
+    """A pytest test or a command that is swept."""
 
     @property
     def name(self) -> str:
@@ -102,10 +103,10 @@ class Task(Protocol):
         """Redirects the standard output and standard error of this process to a file."""
 
     def carry_out(self, order: Order, given: placement.Placement, room: Path) -> "tuple[Result, list[str]]":
-        """Carries out the task in this process, and returns its result and the modules that are then imported."""
+        """Performs the task in this process. Returns its result and the names of the modules that have been imported."""
 
     def repeat(self, place: Place) -> str:
-        """Returns the command line that repeats a placement."""
+        """Returns the command line that repeats the run with a placement."""
 
     def kept_as(self, rule: str) -> str:
         """Describes how the fault rule `rule` causes the same fault without a sweep."""
@@ -113,7 +114,7 @@ class Task(Protocol):
 
 def start(task: Task, order: Order, room: Path, processor: int) -> int:
     """Starts a run in a child process, and returns the process ID. The child writes its result to the file RESULT in
-    this folder."""
+    the folder `room`."""
     pid = os.fork()
     if pid:
         return pid
@@ -131,7 +132,7 @@ def start(task: Task, order: Order, room: Path, processor: int) -> int:
         if given.failure:
             result = Result("failed", f"the sweep itself failed: {given.failure}")
         result.programs, result.records = given.programs, sum_of(room)
-        # Only a run without a fault reports its modules. They are imported before the other runs start.
+        # Only a run without a fault reports its modules. The parent imports them before the other runs start.
         write_result(room, result, modules if order == FIRST_ORDER else [])
         status = 0
     except BaseException:  # noqa: B902  nothing of the child goes on in pytest
@@ -141,7 +142,7 @@ def start(task: Task, order: Order, room: Path, processor: int) -> int:
 
 
 def placement_of(faults: Sequence[Fault], room: Path) -> placement.Placement:
-    """Returns the placement of these faults. The records of the run go into this folder."""
+    """Returns the placement that causes these faults. The records of the run are written to the folder `room`."""
     return placement.Placement(
         lines_by_bus(faults),
         placement.copy_to(room),
@@ -157,8 +158,8 @@ def die_with_parent() -> None:
 
 
 def begin_run(order: Order) -> None:
-    """Begins a run in virtual time. This process becomes the coordinator, and the call returns in its child, which is
-    the first process of the run."""
+    """Begins a run in virtual time. This process becomes the coordinator. The call returns in its child, which is the
+    first process of the run."""
     program = os.path.join(os.path.dirname(library_in_use()), "canbusd-run")
     words = [program, "--virtual", "--stall", str(STALL), "--seed", str(order.seed), "--jitter", str(order.jitter)]
     words += ["--until", f"{order.until:.6f}"] if order.until is not None else []
@@ -196,7 +197,7 @@ def point_output_at(path: Path) -> None:
 
 
 def first_line(text: str) -> str:
-    """Returns the first line of a text."""
+    """Returns the first line of a string."""
     return next(iter(text.strip().splitlines()), "")
 
 
@@ -216,7 +217,7 @@ def write_result(room: Path, result: Result, modules: Sequence[str]) -> None:
 
 
 def read_result(room: Path, status: int) -> "tuple[Result, list[str]]":
-    """Returns the result of a run that ended with this exit status, and the modules that were imported in it."""
+    """Returns the result of a run that ended with this exit status, and the names of the modules that it imported."""
     try:
         result, modules = json.loads((room / RESULT).read_text())
         return Result(**result), modules

@@ -1,5 +1,5 @@
-"""The commands of `canbusd`. Each module has a function `add_arguments`, which adds its arguments, and a function
-`run`."""
+"""The commands of `canbusd`. Each module has two functions: `add_arguments` adds the arguments of the command, and
+`run` executes it."""
 
 import argparse
 from typing import Optional
@@ -11,7 +11,7 @@ from canbusd.signals import Database, load_database
 
 
 def add_address(parser: argparse.ArgumentParser) -> None:
-    """Adds the option for the address of a server."""
+    """Adds the option for a server's address."""
     parser.add_argument(
         "-a",
         "--address",
@@ -22,7 +22,7 @@ def add_address(parser: argparse.ArgumentParser) -> None:
 
 
 def add_database(parser: argparse.ArgumentParser) -> None:
-    """Adds the options for the database files with the names of signals."""
+    """Adds the option for database files, which contain the names of signals."""
     parser.add_argument(
         "--dbc",
         action="append",
@@ -38,7 +38,7 @@ def database_of(options: argparse.Namespace) -> Optional[Database]:
 
 
 def add_rates(parser: argparse.ArgumentParser, what: str) -> None:
-    """Adds the options for bit rates. `what` describes what they are used for."""
+    """Adds the options for bit rates. `what` describes the purpose of the bit rates."""
     parser.add_argument(
         "--bitrate",
         type=digits,
@@ -55,14 +55,14 @@ def add_rates(parser: argparse.ArgumentParser, what: str) -> None:
 
 
 def digits(text: str) -> int:
-    """Returns the number in a text of decimal digits."""
+    """Parses a string of decimal digits, and returns the number."""
     if not (text.isascii() and text.isdigit()):
         raise argparse.ArgumentTypeError(f"not a number in decimal digits: {text!r}")
     return int(text)
 
 
 def least_zero(text: str) -> float:
-    """Returns the number in a text. The number must be at least 0."""
+    """Parses a number, which must be at least 0."""
     try:
         found = float(text)
     except ValueError:
@@ -73,7 +73,7 @@ def least_zero(text: str) -> float:
 
 
 def above_zero(text: str) -> float:
-    """Returns the number in a text. The number must be above 0."""
+    """Parses a number, which must be above 0."""
     found = least_zero(text)
     if not found:
         raise argparse.ArgumentTypeError(f"not a number above 0: {text!r}")

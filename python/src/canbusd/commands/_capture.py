@@ -1,4 +1,5 @@
-"""Captures frames of a running server for Wireshark. A frame that several interfaces receive is captured once."""
+"""Captures frames from a running server for Wireshark. A frame that several interfaces receive is captured only once.
+"""
 
 import collections
 import time
@@ -11,8 +12,7 @@ from canbusd._run.pcapng import INBOUND, OUTBOUND, Capture, Packet
 from canbusd.bus import CanbusdBus
 from canbusd.frames import Frame, frame_like
 
-# How many seconds a session may take to deliver its frames, and the maximum number of frames that are read from it at a
-# time.
+# How many seconds a session may take to deliver its frames, and the maximum number of frames to read from it at a time.
 PATIENCE, BATCH = 5.0, 1000
 
 
@@ -30,7 +30,7 @@ class Watched(CanbusdBus):
         return super()._message(text)
 
     def at_hand(self) -> Iterator[Frame]:
-        """Yields frames that were received, up to BATCH of them."""
+        """Yields frames that were received, at most BATCH of them."""
         for _ in range(BATCH):
             message = self.recv(0)
             if message is None:
@@ -38,26 +38,26 @@ class Watched(CanbusdBus):
             yield frame_like(message)
 
     def up_to_now(self) -> Iterator[Frame]:
-        """Yields all frames for the socket, including frames that are still on their way from the server."""
+        """Yields all frames that were sent to the socket, including frames that are still on their way from the server."""
         wanted, deadline = self.stats().queued, time.monotonic() + PATIENCE
         while self.received < wanted and time.monotonic() < deadline:
             message = self.recv(0.01)
             if message is not None:
                 yield frame_like(message)
-        # Later calls do not wait again for frames that have not arrived by now.
+        # Later calls do not wait again for the frames that failed to arrive in time.
         self.received = max(self.received, wanted)
 
 
 class Merged:
-    """Merges the frames of several interfaces, so that each frame appears once. If the sender is one of these
-    interfaces, the frame appears there."""
+    """Merges the frames of several interfaces, so that each frame appears only once. If the sender is one of these
+    interfaces, the frame appears at the sender."""
 
     def __init__(self, buses: Sequence[tuple[str, Watched]]) -> None:
         self._buses = buses
-        # The copies of each frame at the interfaces, in order of their arrival. The key has the time, the text, and the
-        # number among equal frames.
+        # The copies of each frame at the interfaces, in order of arrival. The key contains the timestamp, the frame as
+        # a string, and how many equal frames came before it.
         self._held: dict[tuple[float, str, int, str], list[Packet]] = {}
-        # For each interface, the timestamp of its last frame, and its frames with this timestamp.
+        # For each interface, the timestamp of its last frame, and how often it received each frame with this timestamp.
         self._last: dict[str, tuple[float, collections.Counter[str]]] = {}
 
     @property
@@ -66,11 +66,11 @@ class Merged:
         return bool(self._held)
 
     def take(self) -> list[Packet]:
-        """Returns the frames that can be taken, sorted by timestamp."""
+        """Returns the frames that are complete, sorted by timestamp."""
         for name, bus in self._buses:
             self._add(name, bus.at_hand())
-        # An attempt delivers its frame to the sockets of all interfaces at once. So every socket has the frames that
-        # were read here.
+        # An attempt delivers its frame to the sockets of all interfaces at once. So every socket has received the
+        # frames that were read up to here.
         whole = [*self._held]
         if whole and len(self._buses) > 1:
             for name, bus in self._buses:
@@ -96,7 +96,7 @@ def once(packets: Sequence[Packet]) -> Sequence[Packet]:
 
 
 class Captured:
-    """Writes the frames of interfaces into a capture as they arrive."""
+    """Writes the frames of several interfaces to a capture as they arrive."""
 
     def __init__(self, file: BinaryIO, buses: Sequence[tuple[str, Watched]]) -> None:
         self._file = file
@@ -110,7 +110,7 @@ class Captured:
         return self._merged.has_more
 
     def take(self, ready: object, most: int) -> int:
-        """Writes up to `most` frames that have arrived, and returns their number."""
+        """Writes up to `most` frames that have arrived, and returns how many were written."""
         packets = self._merged.take()[:most]
         self._capture.write(packets)
         self._file.flush()

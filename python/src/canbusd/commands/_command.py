@@ -1,4 +1,4 @@
-"""The common parts of the commands: reporting errors, and the options for a record and its interfaces."""
+"""Functions that several commands use: reporting errors, and the arguments for a record and its interfaces."""
 
 import argparse
 import gc
@@ -17,9 +17,10 @@ class BadWords(ValueError):
 
 
 def run_command(work: Callable[[], Optional[int]], name: str) -> NoReturn:
-    """Runs a command and exits. An error is reported in one line on standard error, with exit status 1.
+    """Runs a command and exits. An error is reported on one line of standard error, with exit status 1.
 
-    At Ctrl-C the command ends without a message, and also if the reader of its standard output ends, such as `head`.
+    The command ends without a message at Ctrl-C, and also if the program that reads its standard output ends, such as
+    `head`.
     """
     signal.signal(signal.SIGINT, signal.SIG_DFL)
     # A long run creates many objects but no reference cycles.
@@ -46,8 +47,8 @@ def run_command(work: Callable[[], Optional[int]], name: str) -> NoReturn:
 
 
 def status_of(work: Callable[[], Optional[int]]) -> Optional[int]:
-    """Returns the exit status of a command. The parser of its arguments may also end the command, for example after it
-    has printed the help."""
+    """Returns the exit status of a command. The argument parser may also end the command, for example after it has
+    printed the help."""
     try:
         return work()
     except SystemExit as end:
@@ -82,7 +83,7 @@ def add_record(parser: argparse.ArgumentParser) -> None:
 
 
 def replayed(path: str, names: Optional[str], cut: bool = False, rates: Optional[Rates] = None) -> Record:
-    """Returns the record in this file, with the events of its run but without its text."""
+    """Returns the record in this file, with the events of its run but without the text of the file."""
     try:
         return read_run(path, names, cut, rates)
     except BadRecord as fault:
@@ -91,7 +92,7 @@ def replayed(path: str, names: Optional[str], cut: bool = False, rates: Optional
 
 def note_of_names(command: str, *runs: tuple[str, Record]) -> None:
     """Prints a note on standard error if some interfaces of a record have no name. The note is about the first such
-    record, and says how to name all its interfaces."""
+    record, and explains how to name all of its interfaces."""
     for path, record in runs:
         nameless = [name for name in record.names if not is_named(name)]
         if nameless:

@@ -1,4 +1,4 @@
-"""The common part of commands that do the same with each of several interfaces of a server."""
+"""The common part of the commands that do the same for each of several interfaces of a server."""
 
 import argparse
 from collections.abc import Callable
@@ -19,7 +19,8 @@ def add_arguments(parser: argparse.ArgumentParser) -> None:
 
 
 def do_with_each(options: argparse.Namespace, do: Callable[[CanbusdBus], None]) -> None:
-    """Calls `do` for each interface. If some calls were refused, raises ValueError with all reasons afterwards."""
+    """Calls `do` for each interface. If some calls were refused, raises ValueError with all reasons after the last
+    call."""
     faults: list[str] = []
     for bus in [
         CanbusdBus(name, NO_FRAMES, address=options.address, error_frames=False) for name in options.interfaces

@@ -28,7 +28,8 @@ def add_arguments(parser: argparse.ArgumentParser) -> None:
 
 
 def run(options: argparse.Namespace) -> None:
-    """Converts the log, and prints the interface of each channel if the log has no names."""
+    """Converts the log, and prints how many frames it has. If the new log has channel numbers instead of names, also
+    prints the interface of each channel."""
     names: Sequence[str] = options.names.split(",") if options.names else ()
     count, known = write_entries(options.target, read_entries(options.source, names), names)
     if not count:

@@ -33,7 +33,7 @@ Bus = TypeVar("Bus", bound=CanbusdBus)
 
 
 class View:
-    """The format in which frames are written."""
+    """The format in which frames are printed."""
 
     def __init__(self, options: argparse.Namespace, width: int, database: Optional[Database] = None) -> None:
         self.is_log, self.explains = options.log, options.explain
@@ -54,12 +54,13 @@ class View:
         return lines
 
     def long(self, frame: Frame) -> str:
-        """Returns a frame in the form that candump prints to a terminal."""
+        """Returns a frame in the format that candump prints on a terminal."""
         if frame.is_error_frame:
             digits = f"{frame.arbitration_id | ERROR:08X}"
         elif frame.is_extended_id:
             digits = f"{frame.arbitration_id:08X}"
-            # As in candump, 11-bit identifiers are aligned right after the first frame with a 29-bit identifier.
+            # As in candump, 11-bit identifiers are aligned right once a frame with a 29-bit identifier has been
+            # printed.
             self.has_seen_extended = True
         else:
             digits = f"{frame.arbitration_id:03X}".rjust(8 if self.has_seen_extended else 3)
@@ -76,12 +77,12 @@ def no_stamp(_: str) -> Callable[[float], str]:
 
 
 def absolute(_: str) -> Callable[[float], str]:
-    """Returns a function that formats the seconds since 1970."""
+    """Returns a function that formats a timestamp as the seconds since 1970."""
     return lambda moment: f"({moment:017.6f}) "
 
 
 def dated(_: str) -> Callable[[float], str]:
-    """Returns a function that formats the date and the time of day."""
+    """Returns a function that formats a timestamp as the date and the time of day."""
 
     def stamp(moment: float) -> str:
         seconds, micros = divmod(round(moment * 1e6), 1000000)
@@ -91,7 +92,7 @@ def dated(_: str) -> Callable[[float], str]:
 
 
 def since(kind: str) -> Callable[[float], str]:
-    """Returns a function that formats the seconds since the previous frame, or since the first one."""
+    """Returns a function that formats a timestamp as the seconds since the previous frame, or since the first frame."""
     start: list[float] = []
 
     def stamp(moment: float) -> str:
@@ -134,7 +135,8 @@ def add_arguments(parser: argparse.ArgumentParser) -> None:
 
 
 def opened(text: str, options: argparse.Namespace, kind: "type[Bus]", errors: int, **more: bool) -> "tuple[str, Bus]":
-    """Opens an interface with its filters and with the error classes in `errors`. Returns its name and the bus."""
+    """Opens an interface with its filters, and with the error classes in `errors`. Returns the name and the bus of the
+    interface."""
     name, *parts = text.split(",")
     filters: list[dict[str, Any]] = []
     join = False
@@ -156,8 +158,8 @@ def opened(text: str, options: argparse.Namespace, kind: "type[Bus]", errors: in
 
 
 class Drops:
-    """Reports items that were dropped because the receive queue of a session was full, at most once per INTERVAL in
-    seconds."""
+    """Reports items that were dropped because the receive queue of a session was full. Checks for such items at most
+    once in INTERVAL seconds."""
 
     INTERVAL = 1.0
 
@@ -166,7 +168,7 @@ class Drops:
         self.next_look, self.has_received = time.monotonic() + self.INTERVAL, False
 
     def look(self, has_received: bool) -> None:
-        """Asks the server for dropped items, if frames have arrived since the last request."""
+        """Asks the server how many items were dropped, if frames have arrived since the last request."""
         self.has_received |= has_received
         if not self.has_received or time.monotonic() < self.next_look:
             return
@@ -191,7 +193,7 @@ class Printed:
         self.buses, self.view = buses, view
 
     def take(self, ready: Sequence[CanbusdBus], most: int) -> int:
-        """Prints up to `most` frames that have arrived, and returns their number."""
+        """Prints up to `most` frames that have arrived, and returns how many were printed."""
         left = most
         for name, bus in self.buses:
             if bus in ready:
@@ -234,7 +236,7 @@ def follow(
     count: Optional[int] = None,
     timeout: Optional[float] = None,
 ) -> None:
-    """Passes frames to the output as they arrive. Ends after `count` frames, or if no frame arrives for `timeout`
+    """Passes frames to the output as they arrive. Ends after `count` frames, or when no frame has arrived for `timeout`
     milliseconds."""
     drops = Drops(buses)
     left = sys.maxsize if count is None else count
@@ -254,7 +256,7 @@ def follow(
 
 
 def print_frames(name: str, bus: CanbusdBus, view: View, most: int) -> int:
-    """Prints up to `most` frames that have arrived, and returns their number."""
+    """Prints up to `most` frames that have arrived, and returns how many were printed."""
     for count in range(min(most, BATCH)):
         message = bus.recv(0)
         if message is None:

@@ -13,7 +13,8 @@ from canbusd._session.protocol import ALL_CLASSES
 from canbusd.commands import add_address
 from canbusd.commands._command import BadWords
 
-# Wireshark calls this program several times before it shows its list. So python-can is imported only if it is needed.
+# Wireshark calls this program several times before it shows its list of captures. So python-can is imported only if it
+# is needed.
 
 EPILOG = """\
 Once it is installed for the user, Wireshark and tshark list `canbusd`, which captures all interfaces of a server, each frame
@@ -25,7 +26,8 @@ options of a capture the server may be another. There are no capture filters, on
 """
 # The name of the capture of all interfaces, and the prefix of the capture of one interface.
 ALL, ONE = "canbusd", "canbusd-"
-# The folders in the user's home directory that Wireshark reads: the first since version 4.2, the second before.
+# The folders in the user's home directory from which Wireshark reads extcap programs: the first since version 4.2, the
+# second before that.
 FOLDERS = (".local/lib/wireshark/extcap", ".config/wireshark/extcap")
 # How many seconds to wait for the answer of a server that may not exist.
 DETECTION = 1.0
@@ -67,14 +69,14 @@ def run(options: argparse.Namespace) -> None:
     elif options.capture:
         capture(options)
     elif options.extcap_capture_filter:
-        # Wireshark shows this output as the reason why the filter is refused.
+        # Wireshark shows this output as the reason for refusing the filter.
         print(NO_FILTERS)
     else:
         raise BadWords("canbusd extcap --install: Wireshark calls it with other words")
 
 
 def install() -> None:
-    """Writes the script that Wireshark starts to the folders that Wireshark reads."""
+    """Writes the script that Wireshark starts to the user's extcap folders."""
     package = os.path.dirname(os.path.dirname(os.path.abspath(canbusd.__file__)))
     text = SCRIPT.format(python=shlex.quote(sys.executable), package=shlex.quote(package))
     for folder in FOLDERS:
@@ -86,8 +88,8 @@ def install() -> None:
 
 
 def list_interfaces(options: argparse.Namespace) -> None:
-    """Prints the available captures. Without a server this is only the capture of all interfaces. The user may choose
-    the server for it."""
+    """Prints the available captures. Without a server, this is only the capture of all interfaces. In Wireshark, the
+    user may choose another server for it."""
     from can.exceptions import CanInitializationError
 
     from canbusd.bus import interfaces

@@ -35,7 +35,7 @@ def add_arguments(parser: argparse.ArgumentParser) -> None:
 
 
 def run(options: argparse.Namespace) -> None:
-    """Ends rules, adds a rule, and prints how many rules remain."""
+    """Ends the existing rules, adds a rule, and prints how many rules remain, as the options request."""
     rule = " ".join(options.rule)
     if not (rule or options.left or options.end):
         raise BadWords("a rule is missing, such as 'next 32 from ecu global bit', or --left or --end")
@@ -45,7 +45,7 @@ def run(options: argparse.Namespace) -> None:
             if options.end:
                 session.end_rules()
             if rule:
-                # The newline marks the text as a script and not as a path.
+                # The newline marks the string as a script and not as a path.
                 session.inject(f"{rule}\n")
             if options.left:
                 print(session.rules_left())

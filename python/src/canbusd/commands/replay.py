@@ -46,8 +46,8 @@ def add_arguments(parser: argparse.ArgumentParser) -> None:
 
 
 def run(options: argparse.Namespace) -> int:
-    """Prints a line for each attempt, each restart and each interface that goes down, and then the bus load and the
-    verdict."""
+    """Prints a line for each attempt, for each restart and for each interface that goes down, and then the bus load and
+    the verdict."""
     rates = rates_of(options)
     record = replayed(options.record, options.names, options.cut, rates)
     slots = slots_of(record.replay) if rates else []
@@ -81,7 +81,7 @@ def report(overlaps: Sequence[str]) -> None:
 
 
 def load_object(load: Load) -> dict[str, object]:
-    """Returns the bus load as an object: the times in seconds, and the share as a fraction."""
+    """Returns the bus load as an object: the times in seconds, and the load as a fraction."""
     return {"type": "load", "busy": load.busy / 1e9, "time": load.whole / 1e9, "share": load.share}
 
 
@@ -99,7 +99,7 @@ def objects_of(record: Record) -> Iterator[dict[str, object]]:
 
 
 def lines_of(record: Record) -> Iterator[str]:
-    """Yields a line for each step, with the error counts of the interface that sent, was restarted or went down."""
+    """Yields a line for each step, with the error counts of the interface that won, was restarted or went down."""
     run, names, steps = record.replay, record.names, record.replay.steps
     for place, (kind, moment, iface) in enumerate(zip(steps.kinds, steps.moments, steps.ifaces)):
         tec, rec = steps.counts_after(place)[iface]

@@ -82,7 +82,8 @@ def run(options: argparse.Namespace) -> int:
     """Writes the page or the drawings to standard output, and returns the exit status."""
     rates = rates_of(options)
     check_words(options)
-    # The faults are opened before the record is read, because a server that ends in the meantime renames both files.
+    # The faults file is opened before the record is read, because a server that ends in the meantime renames both
+    # files.
     faults = None if has_drawings(options) else faults_of(options)
     record, named, rules = with_rules(faults, rates, options)
     other = None if options.other is None else replayed(options.other, options.names, options.cut)
@@ -97,12 +98,12 @@ def run(options: argparse.Namespace) -> int:
 
 
 def has_drawings(options: argparse.Namespace) -> bool:
-    """Returns whether the options ask for text instead of a page."""
+    """Returns whether the options request text instead of a page."""
     return bool(options.text or options.counters or options.arbitration)
 
 
 def check_words(options: argparse.Namespace) -> None:
-    """Refuses options that have no effect together."""
+    """Raises BadWords for options that have no effect together."""
     if options.exit_code and options.other is None:
         raise BadWords("--exit-code needs a second record")
     given = [f"--{name}" for name in ("first", "last") if vars(options)[name] is not None]
@@ -115,7 +116,7 @@ def check_words(options: argparse.Namespace) -> None:
 def write_drawings(
     record: Record, comparison: Optional[Comparison], options: argparse.Namespace, rates: Optional[Rates]
 ) -> None:
-    """Writes events and drawings as text."""
+    """Writes the events and drawings as plain text."""
     first = options.first or 0
     last = record.replay.attempts if options.last is None else options.last
     if options.text:
@@ -145,8 +146,8 @@ def write_page(
 
 
 def faults_of(options: argparse.Namespace) -> Optional[FaultsFile]:
-    """Opens the faults that the user has named, or the faults that a server left next to the record. Returns None if
-    there are none."""
+    """Opens the faults file that the user has named, or the faults file that a server left next to the record. Returns
+    None if there is none."""
     if options.faults is not None:
         return FaultsFile(options.faults, options.record)
     try:
@@ -159,10 +160,11 @@ def faults_of(options: argparse.Namespace) -> Optional[FaultsFile]:
 def with_rules(
     faults: Optional[FaultsFile], rates: Optional[Rates], options: argparse.Namespace
 ) -> tuple[Record, Record, list[str]]:
-    """Returns the record, the record with one more name that its faults imply, and the rule of each attempt. If the
-    faults next to the record are wrong, the rules are left out.
+    """Returns the record, the same record with the interface name that its faults may imply, and the rule of each
+    attempt. If the faults file next to the record is wrong, there are no rules.
 
-    A comparison uses the names in the logs of both runs. If the user gives all names, the record is read only once.
+    A comparison uses the names in the logs of both runs. If the user names all interfaces, the record is read only
+    once.
     """
     if faults is None:
         return as_it_is(rates, options)
@@ -190,13 +192,13 @@ def with_rules(
 
 
 def as_it_is(rates: Optional[Rates], options: argparse.Namespace) -> tuple[Record, Record, list[str]]:
-    """Returns the same values as `with_rules` if there are no faults."""
+    """Returns the values that `with_rules` returns if there are no faults."""
     record = replayed(options.record, options.names, options.cut, rates)
     return record, record, []
 
 
 def note(words: str) -> None:
-    """Writes a note on standard error."""
+    """Writes a note to standard error."""
     print(f"canbusd report: {words}", file=sys.stderr)
 
 

@@ -78,7 +78,7 @@ def run(options: argparse.Namespace) -> None:
 def chosen_of(
     database: Database, options: argparse.Namespace, nodes: Mapping[str, str], known: Sequence[str]
 ) -> dict[str, str]:
-    """Returns the interface of each node. If a node has none, raises ValueError and suggests options."""
+    """Returns the interface of each node. If a node has no interface, raises ValueError with a suggestion of options."""
     without = [name for names in options.without for name in names.split(",")]
     try:
         return interfaces_of(database, without, nodes, options.interface, known)
@@ -89,7 +89,7 @@ def chosen_of(
 
 
 def pairs_of(words: Sequence[str], option: str, form: str) -> Iterator[tuple[str, str]]:
-    """Splits the arguments of an option into names and values."""
+    """Splits the arguments of an option into pairs of a name and a value."""
     for word in words:
         name, equals, value = word.partition("=")
         if not (name and equals and value):
@@ -98,8 +98,8 @@ def pairs_of(words: Sequence[str], option: str, form: str) -> Iterator[tuple[str
 
 
 def table_of(database: Database, rest: RestBus) -> Iterator[str]:
-    """Yields a line for each message, with its interface or with a note that it is not sent. Also yields a line for
-    each node that is not simulated."""
+    """Yields a line for each message, with its interface or with a note that the message is not sent. Also yields a
+    line for each node that is not simulated."""
     sent = {message.format.name: message for message in rest.messages}
     for message in database.messages:
         interface = sent[message.name].interface if message.name in sent else "-"
@@ -110,7 +110,7 @@ def table_of(database: Database, rest: RestBus) -> Iterator[str]:
 
 
 def send_until(rest: LiveRestBus, duration: Optional[float]) -> None:
-    """Waits for the end or for Ctrl-C, and prints how many frames were sent, refused and skipped."""
+    """Waits for the end of the duration or for Ctrl-C, and prints how many frames were sent, refused and skipped."""
     end = time.monotonic() + (float("inf") if duration is None else duration)
     # Ctrl-C is the usual way to end the command.
     signal.signal(signal.SIGINT, signal.default_int_handler)

@@ -68,7 +68,7 @@ def table_of(rows: Sequence[Row], loads: Sequence[Load]) -> list[str]:
 
 
 def row_of(name: str, bus: CanbusdBus) -> Row:
-    """Returns the row of an interface."""
+    """Returns the table row of an interface."""
     counters, stats = bus.error_counters(), bus.stats()
     counts: list[int] = [stats.sent, stats.done, stats.waiting, stats.lost, stats.refused]
     return (name, counters.state, counters.tec, counters.rec, *counts)

@@ -114,7 +114,7 @@ def run(options: argparse.Namespace) -> int:
     task = CommandTask(words, buses, server_options(options), given_words(options))
     test = Test(task, kinds, named(options.senders), named(options.ids.upper()), options.known)
     found = sweep_options(options)
-    # This restart comes last, so that wrong arguments are reported at once.
+    # Restarts Python only after these checks, so that wrong arguments are reported at once.
     if not worker.is_ready():
         worker.start_anew(())
     page = "" if found.given is not None else os.path.join(OUT, "index.html")
@@ -125,7 +125,7 @@ def run(options: argparse.Namespace) -> int:
 
 
 def join_parts(names: "list[str]") -> int:
-    """Joins the parts of a sweep, prints their results, and returns the exit status."""
+    """Joins the parts of a sweep, prints the results, and returns the exit status."""
     if not names:
         raise BadWords("canbusd sweep --join FILE ..: it takes the files sweep.json of the parts")
     tests = joined.join([Path(name) for name in names], Path(OUT))
@@ -137,7 +137,7 @@ def join_parts(names: "list[str]") -> int:
 
 
 def parted(words: "list[str]") -> "tuple[list[str], list[str]]":
-    """Splits the arguments into the buses and the words of the command."""
+    """Splits the arguments into the buses and the command with its arguments."""
     if "--" not in words:
         raise BadWords("canbusd sweep BUS -- COMMAND ..: -- is before the command")
     place = words.index("--")
@@ -147,12 +147,12 @@ def parted(words: "list[str]") -> "tuple[list[str], list[str]]":
 
 
 def named(text: str) -> "list[str]":
-    """Returns the names in a comma-separated text."""
+    """Returns the names in a comma-separated string."""
     return [name for name in text.split(",") if name]
 
 
 def server_options(options: argparse.Namespace) -> "dict[str, Any]":
-    """Returns the arguments for Server."""
+    """Returns the arguments for the class Server."""
     return {"bitrate": options.bitrate, "dbitrate": options.dbitrate, "auto_restart": options.auto_restart}
 
 

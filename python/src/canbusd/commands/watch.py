@@ -46,20 +46,20 @@ BUS_ERROR, NOT_ACKNOWLEDGED, END_OF_FRAME, FORM = 0x080, 0x020, 0x1A, 0x02
 
 
 class Watcher:
-    """The sessions on all interfaces that the page shows."""
+    """Sessions on all interfaces that the page shows."""
 
     def __init__(self, names: Sequence[str], address: Optional[str], database: Optional[Database] = None) -> None:
         self.database = database
         self.buses = [Watched(name, address=address, fd=True, receive_own_messages=True) for name in names]
         # The time when the counts were last requested.
         self.asked = 0.0
-        # For each interface, the times of frames on its bus. Buses with the same bit rates share the cached times.
+        # For each interface, the cache of frame times on its bus. Buses with the same bit rates share a cache.
         rates = [rates_of(bus.load()) for bus in self.buses]
         times = {one: times_of(one) for one in rates if one}
         self.wires = [times[one] if one else None for one in rates]
 
     def tick(self, seconds: float) -> tuple[Json, list[Row]]:
-        """Waits for these seconds. Returns the state of the interfaces and the frames that arrived in the meantime."""
+        """Waits for `seconds`. Returns the state of the interfaces, and the frames that arrived in the meantime."""
         rows: dict[tuple[float, str, int], Row] = {}
         faults = [[0, 0, 0] for _ in self.buses]
         deadline = time.monotonic() + seconds
@@ -72,11 +72,11 @@ class Watcher:
                 break
         began, asked = self.asked, time.monotonic()
         stats, self.asked = [bus.stats() for bus in self.buses], asked
-        # Everything counted between two requests happened after the first of them was sent.
+        # Everything that was counted between two requests happened after the first request was sent.
         span, now = time.monotonic() - began if began else 0.0, time.time()
         loads = [bus.load().permille for bus in self.buses]
         for number in range(len(self.buses)):
-            # These frames arrived before the counts were read.
+            # Reads the frames that arrived before the counts were read.
             self.take(number, rows, faults[number])
         ifaces = [[*bus.error_counters(), *one[3:]] for bus, one in zip(self.buses, stats)]
         missed = sum(one.dropped for one in stats)
@@ -87,8 +87,8 @@ class Watcher:
     def take(self, number: int, rows: dict[tuple[float, str, int], Row], faults: list[int]) -> None:
         """Reads the frames that an interface has received.
 
-        A row has the timestamp, the frame, the interfaces, the meaning, the sender, the nanoseconds on the wire, and
-        the message with its signals if a file knows it.
+        A row contains the timestamp, the frame, the interfaces, the meaning, the sender, the nanoseconds on the wire,
+        and, if a database file describes the frame, the message with its signals.
         """
         for _ in range(MOST_FRAMES):
             message = self.buses[number].recv(0)
@@ -109,15 +109,16 @@ class Watcher:
             row[4] = row[4] if frame.is_rx else number
 
     def decoded(self, frame: Frame) -> Optional[Decoded]:
-        """Returns the message and the signals of a frame, or None if no file knows the frame."""
+        """Returns the message and the signals of a frame, or None if no database file describes the frame."""
         return self.database.decode(frame) if self.database is not None else None
 
     def meaning(self, frame: Frame) -> str:
-        """Returns the meaning of an error message frame, or of a frame that a file knows."""
+        """Returns the meaning of an error message frame, or of a frame that a database file describes."""
         return says(frame, self.decoded(frame))
 
     def note_times(self, rows: Iterable[Row]) -> None:
-        """Adds the nanoseconds that each frame and the bits after it took on the wire, if the bus has a bit rate."""
+        """Adds to each row how many nanoseconds the frame and the bits after it took on the wire, if the bus has a bit
+        rate."""
         by_wire: dict[FrameTimes, list[Row]] = {}
         for row in filter(is_frame, rows):
             # All interfaces that received a frame are on the same bus.
@@ -135,8 +136,8 @@ def rates_of(load: Load) -> Optional[Rates]:
 
 
 def times_of(rates: Rates) -> Optional[FrameTimes]:
-    """Returns the times of frames at these bit rates. If the program for this is missing, prints a note and returns
-    None."""
+    """Returns the cache of frame times for these bit rates. If the program that computes the times is missing, prints a
+    note and returns None."""
     try:
         return FrameTimes(rates)
     except ProgramNotFound as fault:
@@ -150,8 +151,8 @@ def says(frame: Frame, decoded: Optional[Decoded]) -> str:
 
 
 def fault_of(frame: Frame) -> Optional[int]:
-    """Returns the kind of fault in a frame that the interface sent: 0 for last bit, 1 for destroyed, 2 for not
-    acknowledged. Returns None for other frames."""
+    """Returns the kind of fault that an error message frame reports for a frame that the interface sent: 0 for last
+    bit, 1 for destroyed, 2 for not acknowledged. Returns None for other frames."""
     kind, place = frame.data.ljust(4, b"\0")[2:4]
     if not frame.is_error_frame or not frame.arbitration_id & BUS_ERROR or not kind & SENDING:
         return None
