@@ -24,7 +24,7 @@ if TYPE_CHECKING:
 class Client(NamesWhatThereIs):
     """A tester on an interface of a server. It sends UDS requests (ISO 14229-1) to an ECU over ISO-TP.
 
-    The arguments are the same as for Server.isotp. A response must begin within `p2` seconds, or within `p2_star`
+    The arguments are the same as for `Server.isotp`. A response must begin within `p2` seconds, or within `p2_star`
     seconds after a pending response. Methods raise NegativeResponse for a negative response, TimeoutError for a missing
     response, and IsoTpError for a failed transfer.
     """

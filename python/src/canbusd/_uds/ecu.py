@@ -70,7 +70,7 @@ class OnDemand:
 class Ecu(Answers, NamesWhatThereIs):
     """A simulated ECU on an interface of a server. A thread answers UDS requests (ISO 14229-1) over ISO-TP.
 
-    The arguments are the same as for Server.isotp. The ECU responds within `p2` seconds, and within `p2_star` seconds
+    The arguments are the same as for `Server.isotp`. The ECU responds within `p2` seconds, and within `p2_star` seconds
     after a pending response. It returns to the default session after `s3` seconds without a request. Its data are in
     `dids`, `dtcs` and `memory`. Its behaviour is defined by functions with the decorators `did`, `write`, `routine`,
     `security` and `service`. If a function takes longer than P2, the ECU sends pending responses (78) in the meantime.
