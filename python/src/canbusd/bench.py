@@ -378,8 +378,7 @@ class Bench(PassesTime, Dialogue, HasRestBus["BenchRestBus"], NamesWhatThereIs):
         return self._page(self.record(), self._path("html"))
 
     def audit(self) -> str:
-        """Ends the run, and audits its record with the program. Returns the program's result, such as `ok 7 entries`.
-        """
+        """Ends the run, and audits its record with the program. Returns the program's result, such as `ok 7 entries`."""
         return audited(self._left("rec"))
 
     def _page(self, record: Record, path: Path) -> Path:

@@ -348,8 +348,7 @@ class Protection(NamesWhatThereIs):
         self._faults += [fault] * count
 
     def applied(self, data: bytes) -> bytes:
-        """Returns the bytes of the next frame, with its counter and checksum set and the next injected fault applied.
-        """
+        """Returns the bytes of the next frame, with its counter and checksum set and the next injected fault applied."""
         fault = self._faults.pop(0) if self._faults else None
         self._next += {"repeated": -1, "some lost": 1}.get(fault or "", 0)
         content = self.profile.protect(data, self._next)

@@ -64,8 +64,7 @@ def listed(names: Names, what: str) -> list[str]:
 
 
 def whole_number(value: object, what: str, least: int = 0) -> int:
-    """Checks and returns an integer in a rule. The error for a wrong value mentions `what`, the name of the argument.
-    """
+    """Checks and returns an integer in a rule. The error for a wrong value mentions `what`, the name of the argument."""
     if isinstance(value, bool) or not isinstance(value, int) or not least <= value <= MOST:
         raise ValueError(f"{what} is a number from {least} to {MOST}, not {value!r}")
     return value

@@ -221,8 +221,7 @@ class SocketIsoTp(IsoTp):
                     self._read(left)
 
     def _read(self, left: Optional[float]) -> None:
-        """Reads a packet, if one arrives within `left` seconds. Meanwhile, other threads may check the stored packets.
-        """
+        """Reads a packet, if one arrives within `left` seconds. Meanwhile, other threads may check the stored packets."""
         self._is_read = True
         self._news.release()
         try:
@@ -245,8 +244,7 @@ class SocketIsoTp(IsoTp):
 
 
 def outage_of(address: str, channel: str) -> str:
-    """Returns why an interface is off the bus, if the server says so: `bus off` or `down`; otherwise the empty string.
-    """
+    """Returns why an interface is off the bus, if the server says so: `bus off` or `down`; otherwise the empty string."""
     # Errors of python-can are also suppressed, if it is installed: without an answer from the server, there is no
     # reason.
     with contextlib.suppress(Exception):

@@ -244,8 +244,7 @@ class LocalSocket(NamesWhatThereIs):
         return found[0] if found else None
 
     def set_filters(self, filters: Optional[Filters] = None) -> None:
-        """Receives only frames that match one of these filters, by the rules of linux/can.h. None removes the filters.
-        """
+        """Receives only frames that match one of these filters, by the rules of linux/can.h. None removes the filters."""
         pairs = [(0, 0)] if filters is None else [filter_words(one) for one in filters]
         packed = b"".join(lib.FILTER.pack(*pair) for pair in pairs)
         self._bus._call("set_filters", self._number, packed or None, len(pairs))
@@ -369,8 +368,7 @@ class LocalBus(NamesWhatThereIs):
         return socket
 
     def attempt(self) -> Optional[Tried]:
-        """Makes the next attempt at the time `moment`. Returns its outcome; None if no interface has a frame to send.
-        """
+        """Makes the next attempt at the time `moment`. Returns its outcome; None if no interface has a frame to send."""
         with self._turn:
             self._attempt_once()
             tried = self._tried.raw

@@ -227,8 +227,7 @@ class Program(NamesWhatThereIs):
             pass
 
     def fault(self) -> Optional[str]:
-        """Returns an error message if the program has exited by itself although this was not allowed; otherwise None.
-        """
+        """Returns an error message if the program has exited by itself although this was not allowed; otherwise None."""
         if self.status is None or self._may_end or self._is_stopped or self._is_off:
             return None
         return f"{self._name()} ended before the test did; pass may_end=True if it may\n{self.shown()}"

@@ -199,8 +199,7 @@ def parse_record(
 
 
 def read_run(path: Path, names: Optional[Sequence[str]], cut: bool, rates: Optional[Rates]) -> Record:
-    """Returns the record in this file, like read_record, but does not keep the content of the file, which may be large.
-    """
+    """Returns the record in this file, like read_record, but does not keep the content of the file, which may be large."""
     check_no_log(path)
     with open(path, "rb") as file:
         check_beginning(file)

@@ -240,8 +240,7 @@ class Replay:
         return found
 
     def _place_texts(self, chunk: Chunk, first_item: int, unknown: Sequence[Drop]) -> None:
-        """Assigns indexes to the frames and error message frames of a chunk, and to dropped items with unknown content.
-        """
+        """Assigns indexes to the frames and error message frames of a chunk, and to dropped items with unknown content."""
         errors, before = self.items.errors, len(chunk.texts)
         if unknown and UNKNOWN not in self.texts:
             # UNKNOWN gets the index that follows those of all steps and items before the first unknown item.

@@ -47,8 +47,7 @@ class Shape:
         raise NotImplementedError
 
     def at(self, seconds: float, number: int) -> "Value":
-        """Returns the value at this time in seconds. `number` is the index of the frame since the start of the shape.
-        """
+        """Returns the value at this time in seconds. `number` is the index of the frame since the start of the shape."""
         raise NotImplementedError
 
     def span(self, first: float, last: float) -> tuple[float, float]:

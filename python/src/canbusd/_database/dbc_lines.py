@@ -65,8 +65,7 @@ def lines_of(path: str) -> Iterator[tuple[int, bytes]]:
 
 
 def fault_in(bare: bytes, line: bytes) -> Optional[str]:
-    """Returns the error message for a line; None if the line is correct. `bare` is the line without its quoted strings.
-    """
+    """Returns the error message for a line; None if the line is correct. `bare` is the line without its quoted strings."""
     for one in NUMBER.finditer(bare):
         if len(one[0]) > MOST_DIGITS or int(one[1] or 0) > MOST_EXPONENT:
             said = one[0].decode() if len(one[0]) < 30 else f"{one[0][:12].decode()} .. of {len(one[0])} characters"

@@ -140,8 +140,7 @@ class SignalFormat:
         return float(raw) if self.is_float else int(raw.to_integral_value())
 
     def placed(self, raw: Raw) -> int:
-        """Returns the bits of a frame that this raw value sets, as an integer whose lowest byte is byte 0 of the frame.
-        """
+        """Returns the bits of a frame that this raw value sets, as an integer whose lowest byte is byte 0 of the frame."""
         size = len(self.bits)
         number = int.from_bytes(struct.pack(FLOATS[size], raw), "little") if self.is_float else int(raw)
         return sum(1 << bit for place, bit in enumerate(self.bits) if number >> place & 1)

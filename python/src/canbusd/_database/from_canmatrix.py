@@ -68,8 +68,7 @@ def message_of(frame: Any, matrix: Any, path: str) -> MessageFormat:
 
 
 def signal_of(signal: Any, multiplexers: list[str], matrix: Any) -> SignalFormat:
-    """Returns the signal format for a canmatrix signal. `multiplexers` are the names of the multiplexers in its frame.
-    """
+    """Returns the signal format for a canmatrix signal. `multiplexers` are the names of the multiplexers in its frame."""
     above, ranges = signal.muxer_for_signal or "", tuple((int(first), int(last)) for first, last in signal.mux_val_grp)
     if not above and signal.mux_val is not None and multiplexers:
         above = multiplexers[0]

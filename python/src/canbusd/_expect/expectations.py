@@ -72,8 +72,7 @@ class Expectations(Supervision):
         return self._observing().shown(self.database, signals)
 
     def _wait(self, predicate: Callable[[], T], timeout: float) -> Optional[T]:
-        """Calls the predicate until its result is true, and returns the result. Returns None after `timeout` seconds.
-        """
+        """Calls the predicate until its result is true, and returns the result. Returns None after `timeout` seconds."""
         return wait_for(predicate, timeout)
 
     def step(self, title: str) -> "contextlib.AbstractContextManager[None]":

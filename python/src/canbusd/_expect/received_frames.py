@@ -130,8 +130,7 @@ class SeenBus:
         return seen if is_new else None
 
     def place(self, after: int) -> int:
-        """Converts the number of a frame, counted from 0, to its index in `frames`. Returns 0 if the frame was deleted.
-        """
+        """Converts the number of a frame, counted from 0, to its index in `frames`. Returns 0 if the frame was deleted."""
         return max(0, after - self.forgotten)
 
     def _known(self, key: tuple[object, ...], moment: int) -> Optional[Seen]:
@@ -254,8 +253,7 @@ class Received:
         return [(number, bus) for number, bus in enumerate(self.buses) if channel is None or channel in bus.names]
 
     def _first(self, number: int, channel: Optional[str]) -> int:
-        """Returns the position of the first frame on a bus that has not been taken; with `channel`, at this interface.
-        """
+        """Returns the position of the first frame on a bus that has not been taken; with `channel`, at this interface."""
         return self._untaken_of_bus[number] if channel is None else self._untaken.get(channel, 0)
 
     def take(self, seen: Seen, channel: Optional[str] = None) -> None:

@@ -92,8 +92,7 @@ def limits_of(formats: Sequence[SignalFormat], between: Optional[Sequence[float]
 
 
 def number_of(value: Value, formats: Sequence[SignalFormat]) -> Optional[Decimal]:
-    """Returns a value as a number. A name is converted to the number that it stands for, or to None if it is unknown.
-    """
+    """Returns a value as a number. A name is converted to the number that it stands for, or to None if it is unknown."""
     if not isinstance(value, str):
         return Decimal(str(value))
     for one in formats:

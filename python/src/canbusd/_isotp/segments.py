@@ -22,8 +22,7 @@ ONLY_FOR: dict[str, str] = {"wrong number": CONSECUTIVE, "wait": FLOW_CONTROL, "
 
 @dataclass(frozen=True)
 class SegmentFault:
-    """A fault of a segment. It is injected into the next messages that have this segment. Use uds.fault to create one.
-    """
+    """A fault of a segment. It is injected into the next messages that have this segment. Use uds.fault to create one."""
 
     segment: str
     kind: Kind

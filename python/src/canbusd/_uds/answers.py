@@ -87,8 +87,7 @@ class Answers:
 
     @property
     def memory(self) -> dict[int, bytearray]:
-        """The memory for downloads and uploads. The keys are start addresses: ``ecu.memory[0x1000] = bytearray(256)``.
-        """
+        """The memory for downloads and uploads. The keys are start addresses: ``ecu.memory[0x1000] = bytearray(256)``."""
         return self._memory.regions
 
     def _carry_out(self, service: int, request: bytes) -> Optional[bytes]:
