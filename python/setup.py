@@ -23,7 +23,7 @@ except ImportError:
 # If a copy of this folder is built, a link next to the copy leads to the scripts of the clone.
 SCRIPTS = (Path(__file__).resolve().parents[1] / "scripts").resolve()
 CLONE = SCRIPTS.parent
-# The proved program, and the canbusd-run in dist/, require glibc 2.34 at most (`scripts/program glibc`).
+# The proved program, and the canbusd-run in dist/, work with glibc 2.34 or later (`scripts/program glibc`).
 LEAST_GLIBC = 34
 
 
@@ -48,7 +48,7 @@ def program_files():
 
 
 class BuildWithProgram(build_py):
-    """Copies the program into the package. An editable install uses the program of its clone instead."""
+    """Copies the program into the package. An editable install uses the program in its clone instead."""
 
     def run(self):
         super().run()

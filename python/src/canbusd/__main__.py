@@ -118,7 +118,7 @@ def main(given: Optional[list[str]] = None) -> NoReturn:
 
 
 def canbusd_run() -> NoReturn:
-    """Runs the command canbusd-run of the wheel, by replacing this process with the program of the same name."""
+    """Runs the canbusd-run that the wheel contains. The program replaces this process."""
     run_command(lambda: run_program("canbusd-run", sys.argv[1:]), "canbusd-run")
 
 

@@ -52,7 +52,7 @@ def no_such(kind: str, word: str, known: Iterable[str]) -> str:
 
 
 def explained(cure: str = "") -> Callable[[F], F]:
-    """Returns a decorator for helpful errors: a call with wrong arguments raises an error with the valid arguments and
+    """Returns a decorator that improves the errors for wrong arguments: they list the valid arguments, followed by
     `cure`."""
 
     def decorated(function: F) -> F:

@@ -92,7 +92,7 @@ class Placement:
     #: The fault script lines for each bus, which are placed before the test's own lines.
     lines: Mapping[BusKey, Sequence[str]] = field(default_factory=dict)
     #: A function that is called with the record of each run. Its arguments are the bus, the names of the interfaces,
-    #: how many sockets at the start belong to the package itself, the record's path or content, and the bit rates if
+    #: how many of the first sockets belong to the package itself, the record's path or content, and the bit rates if
     #: the bus has any.
     keep: "Keep" = lambda *_: None
     at_sockets: Sequence[AtSockets] = ()
@@ -166,8 +166,8 @@ def at_sockets_of(interface: str) -> Optional[AtSockets]:
 
 
 def acknowledged_by(usual: "Ack") -> "Ack":
-    """Returns which nodes acknowledge frames: `peers`, the other nodes on the bus, if the placement takes those nodes
-    off the bus; otherwise `usual`."""
+    """Returns which nodes acknowledge frames. If the placement takes all other nodes off the bus, returns `peers`,
+    which means only other nodes; otherwise returns `usual`."""
     is_noack = _current is not None and any(one.kind == "noack" for one in _current.outages)
     return "peers" if is_noack else usual
 

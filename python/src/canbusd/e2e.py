@@ -44,7 +44,7 @@ class Profile:
     max_delta: int
 
     def of(self, message: "MessageFormat") -> "Profile":
-        """Returns the profile for this message of a database. Raises ValueError if the message is too short for the
+        """Returns the profile for this message in a database. Raises ValueError if the message is too short for the
         profile."""
         if message.size < self.least:
             raise ValueError(f"{self} needs {times(self.least, 'byte')}, and {message.name} has {message.size}")

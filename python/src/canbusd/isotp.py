@@ -244,7 +244,8 @@ class SocketIsoTp(IsoTp):
 
 
 def outage_of(address: str, channel: str) -> str:
-    """Returns why an interface is off the bus, if the server says so: `bus off` or `down`; otherwise the empty string."""
+    """Returns why an interface is off the bus, if the server reports a reason: `bus off` or `down`; otherwise the empty
+    string."""
     # Errors of python-can are also suppressed, if it is installed: without an answer from the server, there is no
     # reason.
     with contextlib.suppress(Exception):

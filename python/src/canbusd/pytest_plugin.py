@@ -415,7 +415,7 @@ def programs_of(run: Union["Server", Bench]) -> Sequence["Program"]:
 
 
 def record_when(run: Union["Server", Bench]) -> str:
-    """Returns when the record of a run is written: at the run's `end`, `live`, or `none` if it is not written."""
+    """Returns when the record of a run is written: `end`, `live` (during the run), or `none` if it is not written."""
     return "end" if isinstance(run, Bench) else run._record_when
 
 

@@ -152,7 +152,7 @@ def attempt_at(run: Replay, names: Sequence[str], place: int, restarted: Sequenc
 
 
 def named(numbers: Sequence[int], names: Sequence[str]) -> tuple[str, ...]:
-    """Returns the names of these interfaces, which are given by index."""
+    """Returns the names of the interfaces with these indexes."""
     return tuple(names[number] for number in numbers)
 
 

@@ -200,7 +200,7 @@ class Replay:
         self._idle = {len(self.steps): self.idle_since}
 
     def _set_down(self, chunk: Chunk, step: int) -> None:
-        """Records that an interface is down, or up again, from this step."""
+        """Records whether an interface is down, beginning with this step."""
         bit = 1 << chunk.ifaces[step]
         down = self._down | bit if chunk.kinds[step] == DOWN else self._down & ~bit
         if down != self._down:

@@ -382,14 +382,14 @@ class RestBus(NamesWhatThereIs):
         self.message(message).send(values)
 
     def start(self, name: Optional[str] = None) -> None:
-        """Starts the node with this name, or the message with this name if there is no such node. Without a name,
-        starts all nodes."""
+        """Starts the node with this name, or the message with this name if there is no such node. By default, starts
+        all nodes."""
         for one in self._named(name):
             one.start()
 
     def stop(self, name: Optional[str] = None) -> None:
-        """Stops the node with this name, or the message with this name if there is no such node. Without a name, stops
-        all nodes. Signals keep their values, and `send` still works."""
+        """Stops the node with this name, or the message with this name if there is no such node. By default, stops all
+        nodes. Signals keep their values, and `send` still works."""
         for one in self._named(name):
             one.stop()
 

@@ -142,7 +142,7 @@ class Noise(Between):
 
 @dataclass(frozen=True)
 class Toggle(Shape):
-    """A shape that repeats a list of values: each frame has the next value, or each value lasts an equal part of the
+    """A shape that repeats a list of values. Each frame has the next value, or each value lasts an equal part of the
     period."""
 
     values: "Sequence[Value]"

@@ -64,7 +64,7 @@ class SignalFormat:
     #: The minimum and the maximum of the value; None if the file defines no limits.
     minimum: Optional[Decimal] = None
     maximum: Optional[Decimal] = None
-    #: The names of raw values.
+    #: The names that the file defines for raw values.
     choices: Mapping[int, str] = field(default_factory=dict)
     #: The initial raw value, before it is limited to the valid range.
     raw_start: Decimal = Decimal(0)

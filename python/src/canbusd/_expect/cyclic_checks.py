@@ -75,7 +75,7 @@ def follow(frames: Iterable[Seen], steps: Sequence[Wanted], between: Optional[Se
 
 
 class Change(NamedTuple):
-    """A change of values: the values before this frame, and the different values of this frame."""
+    """A change of values: the old values, the new values, and the frame with the new values."""
 
     before: object
     after: object

@@ -428,7 +428,7 @@ class Observer:
 
     @contextlib.contextmanager
     def _waits(self) -> Iterator[None]:
-        """A context in which the calling thread reads the sessions itself, so that the reader thread pauses."""
+        """A context manager for waiting: the calling thread reads the sessions itself, and the reader thread pauses."""
         with self._lock:
             self._waiting += 1
         try:

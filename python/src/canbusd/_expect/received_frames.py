@@ -219,8 +219,8 @@ class Received:
     # Expected frames.
 
     def channels(self, channel: Optional[str]) -> Sequence[str]:
-        """Returns the observed interfaces that may have received a frame. Raises ValueError if no interface is
-        observed, or if `channel` is not observed."""
+        """Returns the observed interfaces that an expectation checks: only `channel` if it is given, otherwise all.
+        Raises ValueError if no interface is observed, or if `channel` is not observed."""
         if not self.observed:
             raise ValueError("no interface of the server is observed: it was given observe=()")
         if channel is not None and channel not in self.observed:

@@ -54,7 +54,7 @@ class Incoming:
         #: The expected sequence number of the next consecutive frame, and how many frames remain before the next flow
         #: control.
         self.number, self.left = 1, 0
-        #: The time limit for receiving the next frame.
+        #: The deadline for the next frame, in the time of `time.monotonic`.
         self.deadline = time.monotonic() + LONGEST_GAP
 
 
