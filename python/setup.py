@@ -1,7 +1,7 @@
-"""Adds the programs, and the launcher of servers, to wheels. `scripts/` selects the same files as for `make install`.
-Everything else is in pyproject.toml.
+"""Adds the programs, and the launcher of servers, to wheels. The scripts in `scripts/` select the same files as for
+`make install`. All other settings are in pyproject.toml.
 
-A source distribution is not inside a clone. So a wheel that is built from it contains no program, and is for any
+A source distribution is not part of a clone. So a wheel that is built from it contains no program, and is for any
 platform.
 """
 
@@ -20,26 +20,26 @@ except ImportError:
     # Before setuptools 70.1.
     from wheel.bdist_wheel import bdist_wheel
 
-# If a copy of this folder is built, the scripts of the clone are found through a link next to the copy.
+# If a copy of this folder is built, a link next to the copy leads to the scripts of the clone.
 SCRIPTS = (Path(__file__).resolve().parents[1] / "scripts").resolve()
 CLONE = SCRIPTS.parent
-# The proved program, and the canbusd-run in dist/, need no glibc later than 2.34 (`scripts/program glibc`).
+# The proved program, and the canbusd-run in dist/, work with glibc 2.34 or later (`scripts/program glibc`).
 LEAST_GLIBC = 34
 
 
 def said(script, verb):
-    """Returns the lines that a script of the clone prints. They name the files that match the current sources, built
-    here or from dist/."""
+    """Returns the output lines of a script in the clone. They name the files that match the current sources, either
+    built here or from dist/."""
     return subprocess.check_output([SCRIPTS / script, verb], text=True).splitlines()
 
 
 @functools.lru_cache(maxsize=None)
 def program_files():
-    """Returns the files that are copied to the package's folder `program`; an empty list outside of a clone."""
+    """Returns the files that are copied to the folder `program` of the package; an empty list outside of a clone."""
     if not (SCRIPTS / "program").is_file():
         return []
     programs = said("program", "choose")
-    # Without gcc there may be no canbusd-run, as with `make install`. The script has then printed the reason.
+    # Without gcc there may be no canbusd-run, as with `make install`. In this case, the script has printed the reason.
     with contextlib.suppress(subprocess.CalledProcessError):
         programs += said("run-program", "files")
     with contextlib.suppress(subprocess.CalledProcessError):
@@ -48,7 +48,7 @@ def program_files():
 
 
 class BuildWithProgram(build_py):
-    """Copies the program into the package. An editable install uses the program of its clone instead."""
+    """Copies the program into the package. An editable install uses the program in its clone instead."""
 
     def run(self):
         super().run()
@@ -63,7 +63,7 @@ class BuildWithProgram(build_py):
 
 
 class PlatformWheel(bdist_wheel):
-    """A wheel for any Python 3, and for the platform of the program."""
+    """A wheel for any version of Python 3, and for the platform of the program."""
 
     def get_tag(self):
         names = {file.name for file in program_files()}

@@ -1,9 +1,10 @@
-"""Measures how punctual a rest bus is: a receiver gets 100 messages of 10 to 1,000 ms on a bus with 500 kbit/s.
+"""Measures how punctual a rest bus is: it sends 100 messages with cycle times of 10 to 1,000 ms to a receiver on a bus
+with 500 kbit/s.
 
     nice -n -10 python3 python/benchmarks/rest_bus.py [SECONDS]
 
-The output shows how much the periods deviate from the cycle times, for all frames and for each cycle time. Half of the
-deviations are below p50, and 99 % are below p99.
+The output shows how much the periods deviate from the cycle times, in total and for each cycle time. p50 is the median
+of the deviations, and p99 is their 99th percentile.
 """
 
 import os
@@ -20,8 +21,8 @@ MICROS = 1_000_000
 
 
 def database(folder):
-    """Writes a DBC file with these messages of 8 bytes. Returns the path of the file, and the cycle time of each
-    message by identifier."""
+    """Writes a DBC file with the messages in CYCLES, which have 8 bytes each. Returns the path of the file, and a dict
+    of the cycle times by identifier."""
     lines, cycles = ['VERSION ""\n\nBU_: Others ECU\n'], {}
     for cycle, count in CYCLES.items():
         for _ in range(count):

@@ -23,7 +23,7 @@ import can
 from canbusd.server import Server
 
 RUNS = 3
-# The sizes of bursts: as many frames as python-can's socketcand client handles without loss, and a larger number.
+# The sizes of bursts: the largest that python-can's socketcand client handles without loss, and a larger size.
 FEW, SOME = 15, 1000
 
 
@@ -59,7 +59,7 @@ def canbusd():
 
 
 def round_trips(one, other, count):
-    """Makes `count` round trips, and returns the duration of each in seconds."""
+    """Makes `count` round trips, and returns the duration of each round trip in seconds."""
     took = []
     for number in range(count):
         begun = time.perf_counter()
@@ -80,7 +80,8 @@ def send_together(bus, frames):
 
 
 def burst(one, other, count, part, send):
-    """Sends `count` frames in bursts of `part`. Returns the received frames per second, and the number of lost frames."""
+    """Sends `count` frames in bursts of `part` frames. Returns how many frames were received per second, and how many
+    were lost."""
     frames = [frame(number) for number in range(count)]
     got = sent = 0
     arrived = threading.Semaphore(0)
@@ -106,8 +107,8 @@ def burst(one, other, count, part, send):
 
 
 def measured(interface, count, part, send):
-    """Returns the best of several runs: round trips per second, latencies and frames per second. Also returns the lost
-    frames of all runs."""
+    """Returns the best results of several runs: round trips per second, latencies and frames per second. Also returns
+    how many frames were lost in all runs."""
     rows, lost = [], 0
     for _ in range(RUNS):
         with interface() as (one, other):

@@ -5,23 +5,23 @@
             can0.send(can.Message(arbitration_id=0x123, data=[1, 2], is_extended_id=False))
             first, again = can1.recv(5), can1.recv(5)
 
-Server         a server with one or more buses: opens buses, runs programs, expects frames and states
-Bench          one bus, step by step: time advances with each attempt, and each run gives the same result
+Server         a server with one or more buses: opens buses, runs programs, checks frames and states
+Bench          one bus, step by step: time advances with each attempt, and every run has the same result
 Faults         rules that disturb frames, for a server, a bench or one test
 CanbusdBus     the bus that `can.Bus(interface="canbusd", channel="can0")` opens
 Frame          a frame of a bench or a record; `str()` returns candump's spelling
 IsoTp          one end of an ISO-TP connection, which `Server.isotp` opens
-RestBus        the messages of a database, sent at their cycle times: `Server.rest_bus`, `Bench.rest_bus`
-Program        a program that a test has started: `Server.start`
-load_database  loads the messages and signals of a DBC, KCD, ARXML or SYM file: a Database
-read_record    reads from a record what happened on a bus: a Record of Attempts
-step           names a step of a test, for the test's report
+RestBus        sends the messages of a database at their cycle times: `Server.rest_bus`, `Bench.rest_bus`
+Program        a program that `Server.start` has started
+load_database  loads messages and signals from a DBC, KCD, ARXML or SYM file, and returns a Database
+read_record    reads the record of a bus, and returns a Record with its Attempts
+step           marks a step of a test in the test's report
 is_virtual     whether this process runs in virtual time
 
-Other modules: canbusd.uds has a simulated ECU and a UDS client, canbusd.e2e has counters and checksums of messages,
-canbusd.shapes has signal values over time, canbusd.pytest_plugin has the fixture `canbusd`, and canbusd.strategies has
-frames and faults for Hypothesis. A name is imported when it is first used: only CanbusdBus and logs need python-can,
-and only the plugin needs pytest.
+Other modules: canbusd.uds contains a simulated ECU and a UDS client, canbusd.e2e counters and checksums of messages,
+canbusd.shapes signal values over time, canbusd.pytest_plugin the fixture `canbusd`, and canbusd.strategies frames and
+faults for Hypothesis. A name is imported when it is first used: only CanbusdBus and logs require python-can, and only
+the plugin requires pytest.
 """
 
 import importlib
@@ -29,7 +29,7 @@ import sys
 from typing import TYPE_CHECKING, Any
 
 if sys.version_info < (3, 9):
-    # Without this check, the first error would be that a type is not subscriptable.
+    # Without this check, Python 3.8 or earlier would only report that a type is not subscriptable.
     raise ImportError("canbusd needs Python 3.9 or later, and this is %d.%d" % sys.version_info[:2])
 
 if TYPE_CHECKING:
@@ -104,7 +104,7 @@ _HOMES = {
     "virtual": ["is_virtual"],
 }
 
-#: The modules that a test can import from this package, such as `from canbusd import uds`.
+#: The modules of this package that a test can import, as in `from canbusd import uds`.
 _MODULES = ["e2e", "shapes", "uds"]
 
 

@@ -1,4 +1,4 @@
-"""Error texts for calls with wrong arguments and for unknown names: the texts list the valid names."""
+"""Error messages for calls with wrong arguments and for unknown names. The messages list the valid names."""
 
 import difflib
 import functools
@@ -7,7 +7,7 @@ from typing import TYPE_CHECKING, Any, ClassVar, Optional, TypeVar, cast
 
 F = TypeVar("F", bound=Callable[..., Any])
 
-#: Argument names that other calls and libraries use, and the names of the same arguments here.
+#: Argument names that other functions and libraries use, and the corresponding names here.
 OTHER_NAMES = {
     "bit_rate": "bitrate",
     "cycle": "period",
@@ -39,20 +39,21 @@ def close_at_exit(close: Callable[[], object], kind: Optional[type[BaseException
 
 
 def meant(word: str, known: Iterable[str]) -> str:
-    """Returns a suggestion such as ` (pace_ms?)` if the word resembles a known name; else the empty string."""
+    """Returns a suggestion such as ` (pace_ms?)` if the word resembles a known name; otherwise the empty string."""
     names = list(known)
     near = [OTHER_NAMES[word]] if OTHER_NAMES.get(word) in names else difflib.get_close_matches(word, names, n=1)
     return f" ({near[0]}?)" if near else ""
 
 
 def no_such(kind: str, word: str, known: Iterable[str]) -> str:
-    """Returns the error text for an unknown name, with the names that exist: `no option pace (pace_ms?); there are ..`."""
+    """Returns the error for an unknown name, with the existing names: `no option pace (pace_ms?); there are ..`."""
     names = list(known)
     return f"no {kind} {word}{meant(word, names)}; there are {', '.join(names) or 'none'}"
 
 
 def explained(cure: str = "") -> Callable[[F], F]:
-    """Returns a decorator that explains calls with wrong arguments: the error lists the valid arguments and the remedy."""
+    """Returns a decorator that improves the errors for wrong arguments: they list the valid arguments, followed by
+    `cure`."""
 
     def decorated(function: F) -> F:
         @functools.wraps(function)
@@ -98,7 +99,7 @@ def misfit(function: Callable[..., Any], args: tuple[Any, ...], kwargs: Mapping[
 
 
 class NamesWhatThereIs:
-    """A class whose error for a missing attribute suggests the attribute that may be meant."""
+    """A base class whose error for a missing attribute suggests an existing attribute."""
 
     __slots__ = ()
     #: Attribute names that other classes use, and what to write instead. The key `*` stands for any other name.
@@ -108,8 +109,7 @@ class NamesWhatThereIs:
 
         def __getattr__(self, name):
             if hasattr(type(self), name):
-                # The attribute exists: one of its property's statements raised AttributeError, which this call raises
-                # again.
+                # The attribute is a property whose code raised AttributeError. This call raises that error again.
                 return object.__getattribute__(self, name)
             public = [one for one in dir(type(self)) if not one.startswith("_")]
             instead = self._INSTEAD.get(name) or meant(name, public) or self._INSTEAD.get("*", "")

@@ -6,7 +6,7 @@ from canbusd.frames import data_bytes
 
 
 def _table(polynomial: int, bits: int) -> list[int]:
-    """Returns a table with the CRC of each byte."""
+    """Returns the table with the CRC of every byte value."""
     table, highest, mask = [], 1 << bits - 1, (1 << bits) - 1
     for byte in range(256):
         crc = byte << bits - 8
@@ -20,7 +20,7 @@ J1850, _H2F, _CCITT = _table(0x1D, 8), _table(0x2F, 8), _table(0x1021, 16)
 
 
 def crc8_of(table: Sequence[int], data: bytes, crc: int) -> int:
-    """Continues a CRC over these bytes with a table, and returns the new CRC."""
+    """Updates an 8-bit CRC with these bytes, using a table, and returns the new CRC."""
     for byte in data:
         crc = table[crc ^ byte]
     return crc

@@ -1,8 +1,8 @@
 """The current placement of a sweep: the faults that this process adds to the runs of a test, and where the records of
-the runs go.
+the runs are stored.
 
-A sweep runs a test many times, each time in a new process and with the fault at a different attempt. Outside a sweep
-there is no placement, and this module does nothing.
+A sweep runs a test many times, each time in a new process and with a fault at a different attempt. Outside a sweep
+there is no placement, and the functions of this module have no effect.
 """
 
 import os
@@ -20,11 +20,11 @@ if TYPE_CHECKING:
     from canbusd._process.program_run import Ack
     from canbusd._process.rates import Rates
 
-#: A bus of a test: the number of its server or bench, in the order in which they start, and the bus's first interface.
+#: A bus in a test: the index of its server or bench in start order, and the name of the bus's first interface.
 BusKey = tuple[int, str]
 
 
-#: A record: the path of its file, or its text.
+#: A record: the path of its file, or its content.
 Left = Union[Path, bytes]
 Keep = Callable[[BusKey, Sequence[str], int, Left, "Optional[Rates]"], None]
 
@@ -34,15 +34,15 @@ DELAY = 0.010
 
 
 class AtSockets(NamedTuple):
-    """A fault at the sockets of an interface."""
+    """A fault in the sockets of an interface."""
 
-    #: `missed`: the sockets lose the frame with this timestamp, as in an overrun. `late`: the sockets receive that
-    #: frame DELAY seconds later. `full`: from this time on, the first attempt to send such a frame finds the transmit
-    #: queue full.
+    #: `missed`: the sockets lose the frame with this timestamp, as if a receive buffer had overrun. `late`: the sockets
+    #: receive that frame DELAY seconds later. `full`: from this time on, the first attempt to send such a frame finds
+    #: the transmit queue full.
     kind: str
     interface: str
-    #: The identifier with 3 or 8 hexadecimal digits, and the time in seconds with six decimals, both spelled as in
-    #: messages.
+    #: The identifier as 3 or 8 hexadecimal digits, and the time in seconds with six decimals, both as written in
+    #: protocol messages.
     identifier: str
     moment: str
 
@@ -58,7 +58,7 @@ class AtSockets(NamedTuple):
 
 
 class Outage(NamedTuple):
-    """Interfaces of a server that are down for a certain time."""
+    """Interfaces of a server that go down at a given time, for a given number of seconds."""
 
     #: `down`: this interface is down. `noack`: all other interfaces of its bus are down, so that no node acknowledges
     #: its frames.
@@ -68,7 +68,8 @@ class Outage(NamedTuple):
     seconds: float
 
     def among(self, buses: Sequence[Sequence[str]]) -> list[str]:
-        """Returns the interfaces that go down on a server with these buses."""
+        """Returns the interfaces that go down on a server with these buses; an empty list if the server does not have
+        `interface`."""
         own = next((names for names in buses if self.interface in names), ())
         return [name for name in own if (name == self.interface) == (self.kind == "down")]
 
@@ -80,7 +81,7 @@ class Reset(NamedTuple):
     moment: float
 
 
-#: The first bus of the first server or bench.
+#: Stands for the first bus of the first server or bench.
 FIRST: BusKey = (0, "")
 
 
@@ -88,11 +89,11 @@ FIRST: BusKey = (0, "")
 class Placement:
     """The faults that this process adds to the runs of its test, and a function that receives the runs' records."""
 
-    #: The script lines for a bus, which come before the test's own lines.
+    #: The fault script lines for each bus, which are placed before the test's own lines.
     lines: Mapping[BusKey, Sequence[str]] = field(default_factory=dict)
-    #: A function that is called with each record of a run. Its arguments are the bus, the names of its interfaces, the
-    #: number of first sockets that belong to the package itself, the record's path or text, and the bit rates if the
-    #: bus has any.
+    #: A function that is called with the record of each run. Its arguments are the bus, the names of the interfaces,
+    #: how many of the first sockets belong to the package itself, the record's path or content, and the bit rates if
+    #: the bus has any.
     keep: "Keep" = lambda *_: None
     at_sockets: Sequence[AtSockets] = ()
     resets: Sequence[Reset] = ()
@@ -101,17 +102,18 @@ class Placement:
     programs: int = 0
     #: The reason why a fault could not be carried out.
     failure: str = ""
-    #: The number of servers and benches that the test has started, and the bus of the first call of `lines_of`.
+    #: How many servers and benches the test has started, and the bus passed to the first call of `lines_of`.
     runs: int = 0
     first: Optional[BusKey] = None
 
     def next_run(self) -> int:
-        """Returns the number of the next server or bench that starts."""
+        """Returns the index of the next server or bench that starts."""
         self.runs += 1
         return self.runs - 1
 
     def lines_of(self, bus: BusKey) -> list[str]:
-        """Returns the script lines for a bus. The bus of the first call counts as the first of all buses."""
+        """Returns the fault script lines for a bus. The bus in the first call of this method is treated as the bus
+        FIRST."""
         self.first = self.first or bus
         return [*(self.lines.get(FIRST, ()) if bus == self.first else ()), *self.lines.get(bus, ())]
 
@@ -120,7 +122,7 @@ _current: Optional[Placement] = None
 
 
 def carry_out(placement: Placement) -> None:
-    """Makes this process carry out a placement."""
+    """Sets the placement that this process carries out."""
     global _current
     _current = placement
     for one in placement.at_sockets:
@@ -139,12 +141,12 @@ def has_faults() -> bool:
 
 
 def next_run() -> int:
-    """Returns the number of the next server or bench that starts; 0 if there is no placement."""
+    """Returns the index of the next server or bench that starts; 0 if there is no placement."""
     return _current.next_run() if _current else 0
 
 
 def script_of(bus: BusKey, script: Optional[Script]) -> Optional[Script]:
-    """Returns the fault script of a bus: the lines of the placement come before the test's own lines."""
+    """Returns the fault script for a bus: the lines of the placement, followed by the test's own lines."""
     added = _current.lines_of(bus) if _current else ()
     if not added:
         return script
@@ -159,13 +161,13 @@ def rules_of(bus: BusKey) -> Sequence[str]:
 
 
 def at_sockets_of(interface: str) -> Optional[AtSockets]:
-    """Returns the fault at the sockets of an interface, if the placement has one."""
+    """Returns the fault that the placement injects in the sockets of an interface; None if there is none."""
     return next((one for one in _current.at_sockets if one.interface == interface), None) if _current else None
 
 
 def acknowledged_by(usual: "Ack") -> "Ack":
-    """Returns which nodes acknowledge frames: only the other nodes of the bus if the placement takes those nodes off
-    the bus, else the usual nodes."""
+    """Returns which nodes acknowledge frames. If the placement takes all other nodes off the bus, returns `peers`,
+    which means only other nodes; otherwise returns `usual`."""
     is_noack = _current is not None and any(one.kind == "noack" for one in _current.outages)
     return "peers" if is_noack else usual
 
@@ -180,7 +182,8 @@ def note_server(buses: Sequence[Sequence[str]], take_down: Callable[[Sequence[st
 
 
 def note_failure(reason: Exception) -> None:
-    """Notes that a fault of the placement could not be carried out. Its run then shows nothing about the test."""
+    """Notes that a fault of the placement could not be carried out. The result of this run then says nothing about the
+    test."""
     if _current is not None:
         _current.failure = str(reason)
 
@@ -207,14 +210,14 @@ def sleep_until(moment: float) -> None:
 
 
 def keep(bus: BusKey, names: Sequence[str], own: int, record: Left, rates: "Optional[Rates]") -> None:
-    """Hands a complete record to the sweep, if there is one."""
+    """Passes a complete record to the sweep, if there is one."""
     if _current and (isinstance(record, bytes) or record.exists()):
         _current.keep(bus, names, own, record, rates)
 
 
 def copy_to(folder: Path) -> "Keep":
-    """Returns a function that copies each record to this folder. A file next to the record has the number of the
-    package's own sockets, the names of the interfaces and the bit rates."""
+    """Returns a function that copies each record to this folder. A file next to the record contains how many sockets
+    belong to the package itself, the names of the interfaces and the bit rates."""
 
     def copy(bus: BusKey, names: Sequence[str], own: int, record: Left, rates: "Optional[Rates]") -> None:
         target = folder / f"{bus[0]}-{bus[1]}.rec"

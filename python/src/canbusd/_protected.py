@@ -1,4 +1,4 @@
-"""The end-to-end protection profile of a message, which a test passes or the attributes in a database define."""
+"""The end-to-end protection profile of a message, given by a test or by attributes in a database."""
 
 import re
 from typing import TYPE_CHECKING, Any, Optional
@@ -30,9 +30,9 @@ def profile_in(message: "MessageFormat") -> Optional[Profile]:
     """Returns the profile that the attributes of a message in a DBC file define; None if there is no attribute
     E2EProfile.
 
-    E2EProfile is the number of the profile, spelled `5`, `P05` or `Profile5`. The other attributes are its arguments:
-    E2EDataId, E2EDataIdMode, E2EOffset (in bits) and E2EMaxDelta. Profiles 2 and 22 use E2EDataIds, which is 16 numbers
-    separated by commas. Raises ValueError if an attribute is wrong.
+    E2EProfile is the number of the profile, written as `5`, `P05` or `Profile5`. The other attributes are its
+    arguments: E2EDataId, E2EDataIdMode, E2EOffset (in bits) and E2EMaxDelta. Profiles 2 and 22 use E2EDataIds, which is
+    16 numbers separated by commas. Raises ValueError if an attribute is wrong.
     """
     given = {name: text for name, text in message.attributes.items() if name.startswith("E2E") and text}
     number = re.search("[1-9][0-9]*$", given.get("E2EProfile", ""))

@@ -1,6 +1,6 @@
 """Raises an error with a remedy if python-can is missing or too old.
 
-A module that needs python-can imports this one first.
+Modules that use python-can import this module first.
 """
 
 import re
@@ -11,7 +11,8 @@ CURE = "`apt-get install python3-can` for Debian's /usr/bin/python3, else `pip i
 
 
 class NoPythonCan(ImportError):
-    """python-can is missing or too old. The text says which version was found, and which command installs python-can."""
+    """Raised if python-can is missing or too old. The message says which version was found, and which command installs
+    python-can."""
 
 
 try:

@@ -1,6 +1,6 @@
 """Adds the steps and buses of a test to the reports of pytest-html and allure-pytest.
 
-The code follows the documentation of both plugins.
+The code is based on the documentation of both plugins.
 """
 
 import os
@@ -12,7 +12,8 @@ from canbusd import steps
 
 
 def attach_to_allure(text: str, pages: Sequence[str]) -> None:
-    """Adds a text about a bus and the pages of the bus to the report of allure-pytest, if that plugin is active."""
+    """Attaches a description of a bus and the pages of the bus to the report of allure-pytest, if that plugin is
+    active."""
     allure = steps.with_allure()
     if allure is None:
         return
@@ -22,10 +23,8 @@ def attach_to_allure(text: str, pages: Sequence[str]) -> None:
 
 
 def add_to_html(config: Any, report: Any, text: str, pages: Sequence[str]) -> None:
-    """Adds the steps, the facts about the buses, and links to their pages to the report of pytest-html, if that plugin
-    is active.
-
-    The additions are attached to pytest's report of the end of the test.
+    """Adds the steps, the description of the buses, and links to the pages of the buses to the report of pytest-html,
+    if that plugin is active. The additions are attached to pytest's report for the teardown phase.
     """
     html: Any = sys.modules.get("pytest_html")
     path = config.getoption("htmlpath", None)
@@ -38,6 +37,6 @@ def add_to_html(config: Any, report: Any, text: str, pages: Sequence[str]) -> No
         extras.append(html.extras.text(text, name="canbusd"))
     folder = os.path.dirname(os.path.abspath(path))
     extras += [html.extras.url(os.path.relpath(page, folder), name="page") for page in pages]
-    # Version 4 of pytest-html renames the attribute to extras.
+    # In version 4 of pytest-html, the attribute is called extras.
     name = "extra" if str(getattr(html, "__version__", "4")).startswith(("1.", "2.", "3.")) else "extras"
     setattr(report, name, [*getattr(report, name, []), *extras])

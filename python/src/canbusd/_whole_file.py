@@ -1,4 +1,5 @@
-"""Files that are written completely or not at all: the old content stays until the end, and also after an error."""
+"""Files that are written completely or not at all. The old content stays until the new content is complete, and also
+after an error."""
 
 import contextlib
 import errno
@@ -11,21 +12,21 @@ from collections.abc import Iterator
 from typing import BinaryIO, Optional, Union
 
 Path = Union[str, "os.PathLike[str]"]
-#: The folder that lists the open files of this process.
+#: The folder with the open file descriptors of this process.
 OWN_FILES = "/proc/self/fd"
-#: The errors of file systems such as NFS and FAT, which can't create a file without a name.
+#: The errors that file systems such as NFS and FAT return because they can't create a file without a name.
 NAMES_ONLY = (errno.EOPNOTSUPP, errno.EISDIR)
 
 
 @contextlib.contextmanager
 def replaced(path: Path, is_synced: bool = True) -> Iterator[BinaryIO]:
-    """Yields a file for the new content of this path, which replaces the old content after the block. If `is_synced` is
-    true, the new content is on the disk by then.
+    """Yields a file for the new content of this path, which replaces the old content when the `with` block ends. If
+    `is_synced` is true, the new content is then on the disk.
 
-    If the block raises an exception, or the process is killed, the old file stays unchanged, and no other file is left.
-    The file keeps its permissions and, if possible, its owner. A file without write permission is refused. A fifo or a
-    device gets the content after the block. A symbolic link to a file is refused: a new file would replace the link,
-    and somebody else may have chosen its target.
+    If the block raises an exception, or the process is killed, the old file stays unchanged, and no temporary file
+    remains. The file keeps its permissions and, if possible, its owner. A file without write permission is refused. A
+    FIFO or a device is written when the block ends. A symbolic link to a file is refused: a new file would replace the
+    link, and somebody else may have chosen its target.
     """
     with named(path):
         old = checked(path)
@@ -35,8 +36,8 @@ def replaced(path: Path, is_synced: bool = True) -> Iterator[BinaryIO]:
 
 @contextlib.contextmanager
 def named(path: Path, is_its: bool = False) -> Iterator[None]:
-    """Adds the path of this file to an OSError that has no path. If `is_its` is true, the path also replaces a
-    different path in the error."""
+    """Adds this path to an OSError that has no path. If `is_its` is true, this path also replaces another path in the
+    error."""
     try:
         yield
     except OSError as fault:
@@ -61,7 +62,7 @@ def checked(path: Path) -> Optional[os.stat_result]:
 
 @contextlib.contextmanager
 def renamed(path: Path, old: Optional[os.stat_result], is_synced: bool) -> Iterator[BinaryIO]:
-    """Yields a file in the folder of this path, and gives the file this path after the block."""
+    """Yields a new file in the folder of this path, and renames the file to this path when the `with` block ends."""
     name = f".canbusd-{secrets.token_hex(8)}"
     with contextlib.ExitStack() as stack:
         with named(path, is_its=True):
@@ -85,9 +86,9 @@ def renamed(path: Path, old: Optional[os.stat_result], is_synced: bool) -> Itera
 
 
 def drafted(folder: int, name: str) -> tuple[int, bool]:
-    """Opens a new file in a folder. The file has this name only if the file system can't create files without a name;
-    the second result says whether it has the name."""
-    # Without the folder OWN_FILES, a file without a name can't get a name later.
+    """Opens a new file in a folder. Returns its file descriptor, and whether it has this name. The file is given the
+    name only if the file system can't create files without a name."""
+    # Without the folder OWN_FILES, a file that was created without a name can't be given a name later.
     if os.path.exists(OWN_FILES):
         try:
             return os.open(".", os.O_TMPFILE | os.O_WRONLY, 0o666, dir_fd=folder), False
@@ -105,7 +106,7 @@ def remove(folder: int, name: str) -> None:
 
 @contextlib.contextmanager
 def copied(path: Path) -> Iterator[BinaryIO]:
-    """Yields a temporary file, whose content is copied to this path after the block."""
+    """Yields a temporary file, and copies its content to this path when the `with` block ends."""
     with tempfile.TemporaryFile() as draft:
         with open(draft.fileno(), "wb", closefd=False) as file:
             yield file

@@ -1,4 +1,4 @@
-"""A bench: a bus without sockets, threads or clocks, so that each run gives the same result.
+"""A bench: a bus without sockets, threads or clocks, so that every run has the same result.
 
     with Bench("can0,can1", faults=Faults().last_bit(0)) as bench:
         sender, receiver = bench.open("can0"), bench.open("can1")
@@ -51,7 +51,7 @@ if TYPE_CHECKING:
 
     from canbusd._restbus.bench_rest_bus import BenchRestBus
 
-#: The errors of writing to a file that is already open.
+#: The errors that can occur when writing to an open file.
 OF_WRITING = (errno.EFBIG, errno.ENOSPC, errno.EDQUOT, errno.EIO)
 TRIED = re.compile(
     r"(?:idle|tried (?P<winner>\S+) (?P<number>\d+) (?P<outcome>\w+) (?P<accepted>\S+) (?P<off>\S+))"
@@ -61,13 +61,13 @@ TRIED = re.compile(
 
 
 def set_of(names: Optional[str]) -> tuple[str, ...]:
-    """Returns the interfaces in a list of the bench, in which `-` means no interface."""
+    """Returns the interfaces in a list that the bench has printed; `-` is the empty list."""
     return tuple(names.split(",")) if names and names != "-" else ()
 
 
 def write_files(texts: Mapping[Path, Optional[bytes]]) -> None:
-    """Writes each file completely or not at all, and continues after an error. Then raises BenchError with the first
-    error."""
+    """Writes each file completely or not at all, and continues after an error. At the end, raises BenchError with the
+    first error."""
     faults: list[str] = []
     for path, text in texts.items():
         try:
@@ -85,10 +85,11 @@ def write_files(texts: Mapping[Path, Optional[bytes]]) -> None:
 class Bench(PassesTime, Dialogue, HasRestBus["BenchRestBus"], NamesWhatThereIs):
     """A bus with these interfaces, given as `"can0,can1"` or a list, and with the options of `canbusd bench`.
 
-    With a `bitrate`, an attempt takes as long as its bits, and its timestamp is the end of its frame. With a
-    `data_bitrate`, also called `dbitrate`, FD frames with `bitrate_switch` use that rate for their data. `faults` is a
-    script: Faults, a path, or a text. `out` is a folder for the log and the record. They are written when the run ends,
-    and are named after the first interface. Without `out` they are deleted together with the bench.
+    With a `bitrate`, an attempt lasts as long as its bits, and its timestamp is the time at which its frame ends. With
+    a `data_bitrate`, also called `dbitrate`, FD frames with `bitrate_switch` use that rate for their data. `faults` is
+    a fault script: a Faults object, a path, or the text of a script. `out` is a folder for the log and the record. They
+    are written when the run ends, and are named after the first interface. Without `out`, they are deleted together
+    with the Bench object.
     """
 
     _INSTEAD = {
@@ -102,7 +103,7 @@ class Bench(PassesTime, Dialogue, HasRestBus["BenchRestBus"], NamesWhatThereIs):
         "attempts": "record().attempts",
     }
 
-    # Whether the record and the log have been written to files.
+    # Whether the record and the log were written to files.
     _has_files = False
 
     @explained()
@@ -143,32 +144,32 @@ class Bench(PassesTime, Dialogue, HasRestBus["BenchRestBus"], NamesWhatThereIs):
         config = config_of(len(self.names), ack, report, auto_restart, txqueue, limit, self._rates)
         inside = self._inside(config, rxqueue, lambda given: this._why(given)) if is_used() else None
         self._begin(inside or self._as_process())
-        # Errors of the arguments are reported here, before the first session is used.
+        # The program reports errors in the arguments here, before a session is used.
         self._greet()
         self._given = GivenRules(rules_in(script.decode()))
-        # For each attempt, the rule that caused its fault, or the empty string.
+        # For each attempt, the rule that caused its fault, or the empty string if there is none.
         self._rules: list[str] = []
         # The time at which the last attempt ended.
         self._busy_until = 0.0
 
     def _inside(self, config: bytes, capacity: int, why: Callable[[bytes], str]) -> Optional[Lines]:
-        """Returns the bench inside this process; None if the library refuses the arguments. The program then reports
-        the reason."""
+        """Returns a bench inside this process; None if the library refuses the arguments. In that case the program
+        starts, and reports the reason."""
         try:
             return BenchInside(self.names, config, capacity, self._script, why)
         except BenchRefused:
             return None
 
     def _why(self, given: bytes) -> str:
-        """Returns the program's error text for this input."""
+        """Returns the error message that the program prints for this input."""
         return fault_of(self._words_of_run(), given)
 
     def _as_process(self) -> Lines:
-        """Returns the bench as a separate process."""
+        """Returns a bench that runs in a separate process."""
         return BenchProcess(self._words_of_run(), self._folder / "stderr")
 
     def _words_of_run(self) -> list[str]:
-        """Returns the command line arguments of the program. The fault script is written to a file."""
+        """Returns the command line of the program. The fault script is written to a file first."""
         bus = ",".join(self.names)
         if self._script:
             path = self._folder / "faults"
@@ -189,7 +190,7 @@ class Bench(PassesTime, Dialogue, HasRestBus["BenchRestBus"], NamesWhatThereIs):
         error_frames: Union[bool, int] = True,
         join_filters: bool = False,
     ) -> Session:
-        """Opens a session with a raw socket on this interface. The options are those of CanbusdBus."""
+        """Opens a session with a raw socket on this interface. The options are the same as for CanbusdBus."""
         messages = options(
             fd=fd,
             receive_own_messages=receive_own_messages,
@@ -205,7 +206,7 @@ class Bench(PassesTime, Dialogue, HasRestBus["BenchRestBus"], NamesWhatThereIs):
                 raise Refused(TOO_MANY_SESSIONS)
             session = Session(self, self._sessions, channel)
             try:
-                # If a message is refused, the messages after it are refused too, or have no effect.
+                # If one of these messages is refused, the messages after it are refused too, or have no effect.
                 words = " >< ".join([f"open {channel}", "rawmode", *messages, "echo"])
                 self._ask(f"feed {self._sessions} < {words} >")
                 if can_filters is not None:
@@ -230,7 +231,7 @@ class Bench(PassesTime, Dialogue, HasRestBus["BenchRestBus"], NamesWhatThereIs):
 
     @property
     def said(self) -> str:
-        """The error with which the bench ended; the empty string without an error."""
+        """The error that ended the bench; the empty string if there was none."""
         return self._lines.said
 
     @property
@@ -247,7 +248,7 @@ class Bench(PassesTime, Dialogue, HasRestBus["BenchRestBus"], NamesWhatThereIs):
 
     @explained()
     def node(self, name: str) -> Node:
-        """Returns the node of this interface, which can be powered off and on: ``bench.node("ecu").power_off()``."""
+        """Returns the node of this interface, which can be switched off and on: ``bench.node("ecu").power_off()``."""
         return self._nodes.setdefault(self._named(str(name), "name"), Node(self, str(name)))
 
     def _attempt_now(self) -> Optional[Attempt]:
@@ -255,9 +256,9 @@ class Bench(PassesTime, Dialogue, HasRestBus["BenchRestBus"], NamesWhatThereIs):
 
     @explained()
     def inject(self, faults: Script, interface: Optional[str] = None) -> None:
-        """Adds these fault rules after the existing rules of the bus, from the next attempt on.
+        """Adds these fault rules after the existing rules of the bus. They apply from the next attempt.
 
-        `interface` names an interface of the bus, as on a server with several buses.
+        `interface` is an interface of the bus, as for a server that has several buses.
 
         Either all rules are added or none. Raises Refused if the bus would have more than 64 unused rules, and
         ValueError if a rule is wrong.
@@ -269,21 +270,22 @@ class Bench(PassesTime, Dialogue, HasRestBus["BenchRestBus"], NamesWhatThereIs):
             if len(self._given) + len(rules) > MOST_RULES:
                 raise Refused(TOO_MANY_RULES)
             for rule in rules:
-                # The bench does not reply to a line `fault`.
+                # The bench sends no reply to a `fault` line.
                 self._write(f"fault {rule}")
                 self._in_step = True
                 self._given.add(rule)
 
     def rules_left(self, interface: Optional[str] = None) -> int:
-        # The rules of a sweep are not counted.
+        # The rules that a sweep added are not counted.
         planted = self._given.among(len(placement.rules_of((self._number, self.names[0]))))
         return super().rules_left(interface) - planted
 
     def attempt(self, at: Union[str, float, None] = None) -> Optional[Attempt]:
-        """Puts the frame that wins arbitration on the bus, and returns the attempt; None if no frame is queued.
+        """Puts the frame that wins arbitration on the bus, and returns the attempt. Returns None if no frame is queued.
 
-        `at` is the time of the attempt in seconds. Without `at`, the time of the last call is used again, which is 0 at
-        first. An attempt that only restarts an interface, without a frame, is returned with the outcome `idle`.
+        `at` is the time of the attempt in seconds. Without `at`, the time of the last call is used again, or 0 if this
+        is the first call. An attempt that only restarts an interface, without a frame, is returned with the outcome
+        `idle`.
         """
         with self._turn:
             self._write("attempt", at)
@@ -301,8 +303,8 @@ class Bench(PassesTime, Dialogue, HasRestBus["BenchRestBus"], NamesWhatThereIs):
         """Makes attempts until no frame is queued, and returns them. Raises RuntimeError if frames are still queued
         after `most` attempts.
 
-        On a bus with a `bitrate`, `until` may be given instead: then only the attempts that begin before that time are
-        made, however many there are, and the time of the bench is `until` afterwards.
+        On a bus with a `bitrate`, `until` may be given instead. Then all attempts that begin before that time are made,
+        however many there are, and the time of the bench is `until` afterwards.
         """
         if until is not None:
             return self._run_until(moment_text(until, "until"))
@@ -317,7 +319,8 @@ class Bench(PassesTime, Dialogue, HasRestBus["BenchRestBus"], NamesWhatThereIs):
         raise RuntimeError(f"frames still wait after {most} attempts")
 
     def _run_until(self, moment: str, until_woken: bool = False) -> list[Attempt]:
-        """Makes the attempts that begin before a time; with `until_woken`, stops after an attempt that wakes a node."""
+        """Makes the attempts that begin before this time. If `until_woken` is true, stops after an attempt that wakes a
+        node."""
         if self._rates is None:
             raise ValueError("until needs a bench with a bit rate, such as Bench(.., bitrate=500000)")
         attempts: list[Attempt] = []
@@ -334,7 +337,8 @@ class Bench(PassesTime, Dialogue, HasRestBus["BenchRestBus"], NamesWhatThereIs):
         return attempts
 
     def _run_to_next(self, moment: str, bitrate: int) -> list[Attempt]:
-        """Makes the next attempt if it begins before a time, and wakes the nodes that its frame wakes when it ends."""
+        """Makes the next attempt if it begins before this time. When its frame ends, wakes the nodes that react to the
+        frame."""
         soon = max(float(self._moment), self._busy_until) + SOON / bitrate
         attempts = self._begin_before(moment_text(soon) if soon < float(moment) else moment)
         for attempt in attempts:
@@ -344,8 +348,8 @@ class Bench(PassesTime, Dialogue, HasRestBus["BenchRestBus"], NamesWhatThereIs):
         return attempts
 
     def _begin_before(self, moment: str) -> list[Attempt]:
-        """Makes all attempts that begin before a time, and sets the bench to that time. The `echo` reply marks the end
-        of their lines."""
+        """Makes all attempts that begin before this time, and sets the time of the bench to it. The `echo` reply marks
+        the end of the output."""
         lines: list[str] = []
         with self._turn:
             last = min(self._sessions, MOST_SESSIONS)
@@ -361,24 +365,24 @@ class Bench(PassesTime, Dialogue, HasRestBus["BenchRestBus"], NamesWhatThereIs):
         return [attempt for attempt in attempts if attempt is not None]
 
     def record(self) -> Record:
-        """Ends the run, and returns the record of the run."""
+        """Ends the run, and returns its record."""
         return read_record(self._left("rec"), self.names, rates=self._rates)
 
     def log(self) -> "list[Message]":
-        """Ends the run, and returns the log of the bus as python-can messages. A failed attempt is an error message
-        frame."""
+        """Ends the run, and returns the log of the bus as python-can messages. A failed attempt is logged as an error
+        message frame."""
         return read_log(self._left("log"))
 
     def report(self) -> Path:
-        """Ends the run, writes the page of the run, and returns the path of the page."""
+        """Ends the run, writes an HTML page that shows the run, and returns the path of the page."""
         return self._page(self.record(), self._path("html"))
 
     def audit(self) -> str:
-        """Ends the run, and lets the program audit its record. Returns the program's result, such as `ok 7 entries`."""
+        """Ends the run, and audits its record with the program. Returns the program's result, such as `ok 7 entries`."""
         return audited(self._left("rec"))
 
     def _page(self, record: Record, path: Path) -> Path:
-        """Writes the page of the run to this path, and returns the path."""
+        """Writes the HTML page of the run to this path, and returns the path."""
         return write_page(record, path, self._rules, self._rates, self.database)
 
     def _ended(self) -> None:
@@ -396,8 +400,8 @@ class Bench(PassesTime, Dialogue, HasRestBus["BenchRestBus"], NamesWhatThereIs):
         return self._path(ending)
 
     def _write_files(self) -> None:
-        """Writes the record and the log to files, unless this was done before. With an `out` folder this happens when
-        the run ends, else when a file is first needed."""
+        """Writes the record and the log to files, unless this was done before. With an `out` folder, they are written
+        when the run ends; otherwise when a file is first requested."""
         if not self._has_files:
             self._has_files = True
             write_files({self._path(ending): self._lines.left(ending) for ending in ("rec", "log")})
@@ -427,7 +431,7 @@ class Bench(PassesTime, Dialogue, HasRestBus["BenchRestBus"], NamesWhatThereIs):
         )
 
     def _follow(self, message: str) -> None:
-        """Updates the list of rules after an accepted message of a session has added or ended rules."""
+        """Updates the list of rules after the program has accepted a message that adds or ends rules."""
         command, _, rule = " ".join(message.split()).partition(" ")
         if command == "fault":
             self._given.add(parse_rule(rule))
@@ -435,7 +439,8 @@ class Bench(PassesTime, Dialogue, HasRestBus["BenchRestBus"], NamesWhatThereIs):
             self._given.end()
 
     def _greet(self) -> None:
-        """Starts the session that the next `open` uses, unless the bench has the maximum number of sessions."""
+        """Starts the session that the next `open` will use, unless the bench already has the maximum number of
+        sessions."""
         self._sessions += 1
         if self._sessions <= MOST_SESSIONS:
             self._line_after(f"session {self._sessions}")

@@ -58,7 +58,7 @@ if TYPE_CHECKING:
 Self = TypeVar("Self", bound="CanbusdBus")
 
 LOG = logging.getLogger("can.canbusd")
-# python-can itself writes to this log for each bus.
+# The logger to which python-can itself writes for each bus.
 BUS_LOG = logging.getLogger("can.bus")
 BUS_STATES = {
     "active": BusState.ACTIVE,
@@ -67,15 +67,15 @@ BUS_STATES = {
     "off": BusState.ERROR,
     "down": BusState.ERROR,
 }
-# python-can and its tools pass these arguments to all interfaces.
+# Arguments that python-can and its tools pass to all interfaces.
 OF_PYTHON_CAN = {"single_handle", "timing", "ignore_config", "config_context", "poll_interval"}
-# How many seconds to wait for the answer of a server that may not exist.
+# How many seconds to wait for a reply from a server that may not exist.
 DETECTION = 1.0
 
 
 def interfaces(address: Optional[str] = None, timeout: float = 5.0) -> list[str]:
-    """Returns the names of all interfaces of the server at this address, in the server's order. The default address is
-    the same as for CanbusdBus."""
+    """Returns the names of all interfaces of the server at this address, in the order of the server. The default
+    address is the same as for CanbusdBus."""
     found = server_address(address)
     try:
         connection = Connection(found, timeout)
@@ -100,9 +100,9 @@ def as_message(given: Any) -> Any:
 
 
 class Periodic:
-    """The bus as a periodic task sees it. If the transmit queue is full, or the interface is bus off or down, the task
-    continues, as with the CAN sockets of Linux. This class logs the problem once; python-can would log each failed send
-    with a traceback."""
+    """The bus that a periodic task sends to. If the transmit queue is full, or the interface is bus off or down, the
+    task continues, as with SocketCAN. This class logs the problem once; python-can would log every failed send with a
+    traceback."""
 
     def __init__(self, bus: "CanbusdBus") -> None:
         self._bus, self._is_refused = bus, False
@@ -114,7 +114,7 @@ class Periodic:
             self._is_refused = False
         except CanOperationError as fault:
             if self._bus._is_shutdown:
-                # The task was stopped after its last check.
+                # The task was stopped after it last checked for this.
                 return
             if fault.error_code not in ERROR_CODES.values():
                 raise
@@ -132,8 +132,8 @@ class CanbusdBus(InjectsFaults, NamesWhatThereIs, BusABC):
         ``$CANBUSD_ADDRESS``, else ``127.0.0.1:29536``
     :param fd: send and receive CAN FD frames too
     :param receive_own_messages: also receive the messages that this bus sends, with ``is_rx`` false
-    :param local_loopback: other sockets on the same interface receive the messages that this bus sends
-    :param error_frames: receive error message frames; true, false or a mask of their classes
+    :param local_loopback: deliver the messages that this bus sends to other sockets on the same interface
+    :param error_frames: receive error message frames; true, false or a mask of error classes
     :param join_filters: receive only messages that match all filters, instead of at least one
     :param timeout: how many seconds the server may take to reply
     :param bitrate: the expected nominal bit rate; a warning is logged if the server has a different rate or none
@@ -142,7 +142,7 @@ class CanbusdBus(InjectsFaults, NamesWhatThereIs, BusABC):
     :param dbitrate: the same as ``data_bitrate``
     :param kwargs: arguments that python-can passes to all interfaces; they have no effect here
 
-    A bus may be used by several threads at once. Each value may be a string, as in can.conf.
+    A bus may be used by several threads at once. All arguments may be strings, as in can.conf.
     """
 
     _INSTEAD = {
@@ -152,7 +152,8 @@ class CanbusdBus(InjectsFaults, NamesWhatThereIs, BusABC):
     }
 
     def __new__(cls, *args: Any, local: Optional["LocalBus"] = None, **kwargs: Any) -> Any:
-        """Returns a bus of a server. With `local`, returns a `LocalCanbusdBus`, which uses a bus inside this process."""
+        """Returns a bus that is connected to a server. With `local`, returns a `LocalCanbusdBus`, which uses a bus
+        inside this process."""
         if local is None:
             return super().__new__(cls)
         from canbusd.local_can import LocalCanbusdBus
@@ -177,7 +178,7 @@ class CanbusdBus(InjectsFaults, NamesWhatThereIs, BusABC):
         dbitrate: Union[int, str, None] = None,
         **kwargs: Any,
     ) -> None:
-        # Since version 4.3, python-can warns about a bus without a shutdown, even if its constructor failed.
+        # Since version 4.3, python-can warns about a bus that was not shut down, even if its constructor failed.
         self._is_shutdown = True
         self.channel = interface_name(channel)
         if "host" in kwargs or "port" in kwargs:
@@ -209,7 +210,7 @@ class CanbusdBus(InjectsFaults, NamesWhatThereIs, BusABC):
 
     @contextlib.contextmanager
     def _closed_on_a_fault(self) -> Iterator[None]:
-        """Closes the connection if its first use fails."""
+        """Closes the connection if the `with` block raises an exception."""
         try:
             yield
         except CanOperationError as fault:
@@ -221,7 +222,7 @@ class CanbusdBus(InjectsFaults, NamesWhatThereIs, BusABC):
 
     def _prepare(self) -> None:
         """Sets the attributes that do not depend on the connection."""
-        # python-can has had this attribute since version 4.3.
+        # python-can 4.3 and later have this attribute.
         protocols = getattr(can, "CanProtocol", None)
         if protocols is not None:
             self._can_protocol = protocols.CAN_FD if self._fd else protocols.CAN_20
@@ -232,7 +233,8 @@ class CanbusdBus(InjectsFaults, NamesWhatThereIs, BusABC):
         self._lock_send_periodic = threading.Lock()
 
     def _compare(self, rates: Mapping[str, int]) -> None:
-        """Warns if the server's bit rates differ from the given ones. The server is asked only if bit rates are given."""
+        """Warns if the server's bit rates differ from these. The server is queried only if there are bit rates to
+        compare."""
         load = load_of(self._session.answer("load")) if rates else None
         if load is None:
             # An older server does not report bit rates.
@@ -244,7 +246,7 @@ class CanbusdBus(InjectsFaults, NamesWhatThereIs, BusABC):
                 LOG.warning("%s: %s %s is left out: %s", self.channel, name, rate, said)
 
     def __enter__(self: Self) -> Self:
-        # This method has no type annotation in python-can 4.1.
+        # In python-can 4.1, this method has no type annotation.
         return self
 
     @overload
@@ -263,7 +265,7 @@ class CanbusdBus(InjectsFaults, NamesWhatThereIs, BusABC):
     ) -> None:
         ...
 
-    # The second argument is `data` in one overload and `timeout` in the other.
+    # The second argument is `data` in one overload, and `timeout` in the other.
     @explained()  # type: ignore[misc]
     def send(
         self,
@@ -277,36 +279,36 @@ class CanbusdBus(InjectsFaults, NamesWhatThereIs, BusABC):
         """Puts a message into the transmit queue of the interface.
 
         When the call returns, the server has accepted the message. The message is sent as soon as it wins arbitration.
-        As on a bench, the message may be a Frame, or an identifier followed by its data: ``send(0x123, b"\\x01")``. An
-        identifier above 7FF has 29 bits.
+        As with a bench, the message may also be a Frame, or an identifier followed by data: ``send(0x123, b"\\x01")``.
+        An identifier above 7FF is a 29-bit identifier.
 
         :param timeout: how many seconds to wait for room in a full transmit queue; without it, a full queue is an error
         :raises ~can.exceptions.CanOperationError: if the server refuses the message; the ``error_code`` is ``ENOBUFS``
             for ``no buffers``, and ``ENETDOWN`` for ``bus off`` and ``interface down``
-        :raises ~can.exceptions.CanTimeoutError: if the queue was full until the timeout, or the server did not answer
+        :raises ~can.exceptions.CanTimeoutError: if the queue was full until the timeout, or the server did not reply
         :raises ValueError: if this bus can't send the message
         """
         if isinstance(msg, int):
             given = b"" if data is None else data_bytes(data)
             msg = frame_to_send(msg, given, is_extended_id=is_extended_id, is_fd=is_fd)
         elif data is not None:
-            # For a message, `timeout` is the second argument.
+            # If the first argument is a message, the second is the timeout.
             if isinstance(data, bool) or not isinstance(data, (int, float)):
                 raise ValueError(f"timeout is a number of seconds, and data is of an identifier: {data!r}")
             timeout = data
         self._session.send(self._command(msg), timeout)
 
     def send_many(self, msgs: Iterable[Message], timeout: Optional[float] = None) -> None:
-        """Sends messages in order, as many in one write as fit into the transmit queue.
+        """Sends messages in order. Each write to the server contains as many messages as fit into the transmit queue.
 
-        All messages are read from `msgs` before the first is sent. If they become available over time, call
+        All messages are read from `msgs` before the first is sent. If messages only become available over time, call
         :meth:`send` for each message. When this method returns, the server has accepted all messages. At most
         :attr:`window` of them are in the transmit queue at the same time. The queue may still be full, because other
         sockets use the same interface or the queue is shorter. Refused messages are then sent again, after the accepted
         messages of the same write.
 
-        :param timeout: seconds for all messages; without it, the call continues while the server accepts some of them
-            within the timeout of the bus
+        :param timeout: how many seconds all messages together may take; without it, the call continues as long as the
+            server accepts at least one message within the timeout of the bus
         :raises: the same errors as :meth:`send`; the text says how many messages were accepted
         """
         if not isinstance(msgs, Iterable):
@@ -314,18 +316,18 @@ class CanbusdBus(InjectsFaults, NamesWhatThereIs, BusABC):
         self._session.send_many([self._command(msg) for msg in msgs], self.window, timeout)
 
     def set_filters(self, filters: Optional[Filters] = None) -> None:
-        """Receives only messages that match one of these filters, by the rules of linux/can.h; all messages without
-        filters.
+        """Receives only messages that match one of these filters, by the rules of linux/can.h. Without filters, all
+        messages are received.
 
-        A filter with ``extended`` matches only frames with 29 bits if it is true, and only frames with 11 bits if it is
-        false. Remote frames are matched in the same way as data frames. Bit 29 of ``can_id`` inverts a filter. Error
-        message frames are not filtered.
+        If ``extended`` of a filter is true, the filter matches only frames with 29-bit identifiers; if it is false,
+        only frames with 11-bit identifiers. Remote frames are filtered like data frames. Bit 29 of ``can_id`` inverts a
+        filter. Error message frames are not filtered.
         """
         super().set_filters(filters)  # type: ignore[arg-type]
 
     @property
     def state(self) -> BusState:
-        """The state of the interface: ACTIVE (also for error warning), PASSIVE, or ERROR if it is bus off or down.
+        """The state of the interface: ACTIVE (even at error warning), PASSIVE, or ERROR if it is bus off or down.
 
         Setting ACTIVE restarts the interface after bus off, or brings it up if it is down. No other state can be set.
         """
@@ -345,16 +347,16 @@ class CanbusdBus(InjectsFaults, NamesWhatThereIs, BusABC):
         self._session.restart()
 
     def down(self) -> None:
-        """Takes the interface off the bus, as `ip link set can0 down` does. The frames in its transmit queue are lost.
+        """Takes the interface off the bus, like `ip link set can0 down`. The frames in its transmit queue are lost.
 
-        Until `up` is called, the interface sends, accepts and acknowledges nothing, and a send is refused with
+        Until `up` is called, the interface sends, accepts and acknowledges nothing, and attempts to send fail with
         `interface down`. Its sockets stay open. If the interface is already down, nothing changes.
         """
         self._session.down()
 
     def up(self) -> None:
-        """Brings the interface up, or restarts it after bus off. Both error counters are then 0. The interface may
-        already be up."""
+        """Brings the interface up, or restarts it after bus off. Both error counters are then 0. It is not an error if
+        the interface is already up."""
         self._session.up()
 
     def error_counters(self) -> ErrorCounters:
@@ -366,11 +368,11 @@ class CanbusdBus(InjectsFaults, NamesWhatThereIs, BusABC):
         return self._session.stats()
 
     def load(self) -> Load:
-        """Returns the bus load and the bit rates; `Load(0, 0, 0, 0)` without bit rates."""
+        """Returns the bus load and the bit rates; `Load(0, 0, 0, 0)` if the bus has no bit rates."""
         return self._session.load()
 
     def fileno(self) -> int:
-        """Returns a file descriptor that is readable when `recv` would return a message or raise an error at once.
+        """Returns a file descriptor that is readable when `recv` would return a message or raise an error immediately.
 
         Programs must not read from the descriptor. It is also readable if this process has already read the next frame
         from the server.
@@ -378,12 +380,12 @@ class CanbusdBus(InjectsFaults, NamesWhatThereIs, BusABC):
         return self._session.fileno()
 
     def flush_tx_buffer(self) -> None:
-        """Always raises NotImplementedError: frames in the transmit queue of an interface can't be taken back."""
+        """Always raises NotImplementedError: the frames in the transmit queue of an interface can't be removed."""
         raise NotImplementedError("frames in the transmit queue of an interface can't be taken back")
 
     def shutdown(self) -> None:
-        """Ends the session. A call that waits in another thread raises CanOperationError. It is safe to call this
-        method again."""
+        """Ends the session. A `recv` or `send` that is waiting in another thread raises CanOperationError. This method
+        may be called again."""
         super().shutdown()
         self._is_shutdown = True
         self._session.close()
@@ -399,8 +401,8 @@ class CanbusdBus(InjectsFaults, NamesWhatThereIs, BusABC):
     def recv(self, timeout: Optional[float] = None) -> Optional[Message]:
         """Returns the next message; None if no message arrives within `timeout` seconds.
 
-        This method uses the monotonic clock. The method of python-can computes the remaining time from `time.time`,
-        whose values are a quarter of a microsecond apart.
+        This method uses the monotonic clock. python-can's own method computes the remaining time with `time.time`,
+        which has a resolution of a quarter of a microsecond.
         """
         message, _ = self._recv_internal(timeout)
         if message is not None:
@@ -426,7 +428,8 @@ class CanbusdBus(InjectsFaults, NamesWhatThereIs, BusABC):
         return cast(CyclicSendTaskABC, task)
 
     def _send_periodic_internal(self, *args: Any, **kwargs: Any) -> CyclicSendTaskABC:
-        # The task's thread sends only while it holds this lock. So it can't send before the task has its Periodic bus.
+        # The task's thread holds this lock while it sends. So the thread can't send before the task has its Periodic
+        # bus.
         with self._lock_send_periodic:
             task = super()._send_periodic_internal(*args, **kwargs)
             cast(Any, task).bus = Periodic(self)
@@ -435,7 +438,7 @@ class CanbusdBus(InjectsFaults, NamesWhatThereIs, BusABC):
     def _apply_filters(self, filters: Any) -> None:
         message = filter_message(filters)
         self._pairs = [filter_words(one) for one in filters or ()]
-        # Filters that do not fit into one message to the server are applied in this process.
+        # Filters that do not fit into one message to the server are applied by this process.
         self._filters_here = message is None
         answer = self._session.answer(message or str(filter_message(None)))
         if answer:
@@ -453,8 +456,8 @@ class CanbusdBus(InjectsFaults, NamesWhatThereIs, BusABC):
         return message
 
     def _message(self, text: str) -> Message:
-        """Returns the message in this text. If the bus receives its own messages, `is_rx` is false for a message that
-        it sent."""
+        """Returns the message in a line from the server. If the bus receives its own messages, `is_rx` is false for
+        those."""
         if not self._receives_own:
             return frame_of_message(self._make, *text.split()[1:])
         text, number = without_origin(text)
@@ -463,11 +466,12 @@ class CanbusdBus(InjectsFaults, NamesWhatThereIs, BusABC):
         return message
 
     def _is_own(self, number: int) -> bool:
-        """Returns whether this bus sent the frame that has this number at the interface."""
+        """Returns whether this bus sent the frame with this number at the interface."""
         return self._session.is_own(number)
 
     def _passes(self, message: Message) -> bool:
-        """Returns whether a message passes the filters. Messages that the server has filtered already pass at once."""
+        """Returns whether a message passes the filters. A message that the server has already filtered passes without a
+        check."""
         if not self._filters_here:
             if not self._unfiltered:
                 return True
@@ -477,7 +481,7 @@ class CanbusdBus(InjectsFaults, NamesWhatThereIs, BusABC):
         return passes_filters(identifier_word(message), self._pairs, self._join)
 
     def _command(self, msg: Union[Message, Frame]) -> str:
-        """Returns the command that sends this message. Raises ValueError if the message can't be sent."""
+        """Returns the protocol command that sends this message. Raises ValueError if the message can't be sent."""
         if not isinstance(msg, (Message, Frame)):
             raise ValueError(f"msg is a can.Message, such as can.Message(arbitration_id=0x123, data=[1]), not {msg!r}")
         if msg.is_fd and not self._fd:

@@ -1,4 +1,4 @@
-"""Makes an input of `canbusd bench` from a log: candump2bench run.log > run.bench"""
+"""Converts a log to an input for `canbusd bench`: candump2bench run.log > run.bench"""
 
 import argparse
 import re
@@ -23,16 +23,16 @@ is 1 then.
   canbusd bench tester,can0 < run.bench
 """
 MOST_INTERFACES = 16
-# The maximum size of an input that `canbusd bench` reads, in bytes.
+# The maximum size in bytes of an input for `canbusd bench`.
 MOST_BYTES = 16777216
-# The maximum number of omitted lines that are reported individually.
+# The maximum number of skipped lines that are reported individually.
 MOST_NAMED = 100
-# Matches the lines that candump prints on a terminal, which have the number of bytes in brackets.
+# Matches the lines that candump prints on a terminal. They have the number of data bytes in brackets.
 SCREEN_LINE = re.compile(r".*\S +[0-9A-Fa-f]{3,8} +\[[0-9]{1,2}\].*")
 
 
 class NotTaken(Exception):
-    """The reason why a line of the log is left out."""
+    """A line of the log can't be converted. The message says why."""
 
 
 class BenchInput:
@@ -42,7 +42,7 @@ class BenchInput:
         self.sessions: dict[str, int] = {}
         self.lines: list[str] = []
         self.bytes = 0
-        # The sessions that have enabled FD frames.
+        # The numbers of the sessions that have enabled FD frames.
         self._with_fd = set[int]()
         self._names_of_listeners = listeners
         self._listeners = [self._session(name) for name in listeners]
@@ -61,20 +61,20 @@ class BenchInput:
         self._add(f"at {line[1]}", f"feed {sender} < {command} >", "attempt", *drains)
 
     def _session(self, name: str) -> int:
-        """Returns the number of the session on the interface with this name, and opens it if needed."""
+        """Returns the number of the session on this interface, and opens the session if necessary."""
         if name not in self.sessions:
             if not NAME.fullmatch(name):
                 raise NotTaken("an interface has 1 to 15 letters, digits, `_`, `-` and `.` for a name")
             if len(self.sessions) == MOST_INTERFACES:
                 raise NotTaken(f"more than {MOST_INTERFACES} interfaces")
             number = self.sessions[name] = len(self.sessions) + 1
-            # A session that only sends needs no receive queue.
+            # A session that only sends does not use its receive queue, so it filters out all frames.
             quiet = "" if name in self._names_of_listeners else "< filter 0 >"
             self._add(f"session {number}", f"feed {number} < open {name} >< rawmode >{quiet}")
         return self.sessions[name]
 
     def _ask_for_fd(self, *numbers: int) -> None:
-        """Enables FD frames in these sessions, unless they are already enabled."""
+        """Enables FD frames for these sessions, unless they are already enabled."""
         for number in numbers:
             if number not in self._with_fd:
                 self._with_fd.add(number)
@@ -117,7 +117,7 @@ def parser() -> argparse.ArgumentParser:
 
 
 def convert() -> int:
-    """Reads the log and writes the input; returns the exit status."""
+    """Converts the log to an input file; returns the exit status."""
     words = parser().parse_args()
     try:
         bench = BenchInput(words.listen)
@@ -133,9 +133,10 @@ def convert() -> int:
 
 
 def take_lines(bench: BenchInput, log: Iterable[bytes], place: str) -> int:
-    """Adds the lines of a log, and reports the lines that are left out. Returns the number of omitted lines.
+    """Adds the lines of a log, and reports the lines that are skipped. Returns the number of skipped lines.
 
-    Lines that differ only in their timestamps, such as repeated bus off frames, are reported once with their count.
+    Lines that differ only in their timestamps, such as repeated bus off frames, are reported once, with the number of
+    repetitions.
     """
     left_out = 0
     named: dict[tuple[str, str], str] = {}
@@ -165,7 +166,7 @@ def take_lines(bench: BenchInput, log: Iterable[bytes], place: str) -> int:
 
 
 def write(bench: BenchInput, left_out: int) -> int:
-    """Writes the input; returns the exit status."""
+    """Writes the input file; returns the exit status."""
     first = f"# canbusd bench {','.join(bench.sessions)} < THIS FILE"
     if bench.bytes + len(first) + 1 > MOST_BYTES:
         print(

@@ -1,9 +1,9 @@
-"""End-to-end protection: the AUTOSAR profiles 1, 2, 5, 11 and 22, CRC-8 of SAE J1850, and counters in signals.
+"""End-to-end protection: the AUTOSAR profiles 1, 2, 5, 11 and 22, the CRC-8 of SAE J1850, and counters in signals.
 
     rest.protect("EngineData", e2e.Profile1(data_id=0x123))
     server.expect_protected("BrakeData", e2e.Profile5(data_id=0x1234), count=20)
 
-A profile defines where the counter and the checksum are in a message, and how the checksum is computed (AUTOSAR
+A profile defines the positions of the counter and the checksum in a message, and how the checksum is computed (AUTOSAR
 PRS_E2EProtocol and SWS_CRCLibrary). A Protection adds both to sent frames, and can inject faults. A Checker checks
 received frames.
 """
@@ -20,7 +20,7 @@ from canbusd.frames import data_bytes
 if TYPE_CHECKING:
     from canbusd._database.formats import MessageFormat, SignalFormat
 
-#: The results of a check, in AUTOSAR's words, and the results that count as good.
+#: The results of a check, in AUTOSAR's terms, and the results that are considered good.
 Status = Literal["initial", "ok", "some lost", "repeated", "wrong sequence", "wrong crc"]
 GOOD = ("initial", "ok", "some lost")
 #: The faults that a Protection can inject.
@@ -31,25 +31,27 @@ MODES: tuple[Mode, ...] = get_args(Mode)
 
 
 class Profile:
-    """The base class of profiles: where the counter and the checksum are, and which bytes they protect."""
+    """The base class of profiles. A profile defines the positions of the counter and the checksum, and which bytes they
+    protect."""
 
-    #: The number of values of the counter, and the value in the first sent frame.
+    #: The number of values of the counter, and its value in the first sent frame.
     modulo: int
     first: ClassVar[int] = 0
     #: The minimum length of a message in bytes.
     least: int
-    #: The largest accepted step of the counter from one frame to the next; a step above 1 means lost frames.
+    #: The largest step of the counter from one frame to the next that is accepted. A step above 1 means that frames
+    #: were lost.
     max_delta: int
 
     def of(self, message: "MessageFormat") -> "Profile":
-        """Returns the profile for this message of a database. Raises ValueError if the message is too short for the
+        """Returns the profile for this message in a database. Raises ValueError if the message is too short for the
         profile."""
         if message.size < self.least:
             raise ValueError(f"{self} needs {times(self.least, 'byte')}, and {message.name} has {message.size}")
         return self
 
     def protect(self, data: bytes, counter: int) -> bytes:
-        """Returns the bytes of a message after setting the counter and the checksum."""
+        """Returns the bytes of a message with the counter and the checksum set."""
         content = bytearray(data_bytes(data))
         self._check(content)
         self._set_counter(content, counter % self.modulo)
@@ -86,7 +88,7 @@ class Profile:
 
 
 def _nibble(content: bytearray, place: int, value: int) -> None:
-    """Sets four bits of the content, starting at this bit."""
+    """Sets the four bits of the content that start at bit `place`."""
     shift = place % 8
     content[place // 8] = content[place // 8] & ~(15 << shift) & 0xFF | value << shift
 
@@ -112,8 +114,8 @@ class Profile1(Profile):
     """Profile 1: a CRC-8 with the polynomial of SAE J1850, and a counter from 0 to 14. Offsets are in bits.
 
     The `mode` selects which bytes of the data ID are part of the CRC: `both` bytes (1A), `alternating` between the low
-    and the high byte (1B), only the `low` byte, or `nibble` (1C). With `nibble`, the message contains four bits of the
-    high byte.
+    and the high byte (1B), only the `low` byte, or `nibble` (1C). With `nibble`, the message itself contains four bits
+    of the high byte.
     """
 
     data_id: int
@@ -161,7 +163,7 @@ class Profile1(Profile):
             "nibble": [low, 0],
         }[self.mode]
         place = self.crc_offset // 8
-        # The initial value is 0 and there is no inversion, unlike the CRC-8 of SAE J1850.
+        # Unlike the CRC-8 of SAE J1850, this CRC has the initial value 0 and is not inverted.
         return crc8_of(J1850, bytes(first) + content[:place] + content[place + 1 :], 0)
 
 
@@ -248,9 +250,10 @@ class Profile5(Profile):
 
 
 class Signals(Profile):
-    """A counter and a checksum that are signals of a message in a database: ``Signals("Alive", crc="Checksum")``.
+    """A profile whose counter and checksum are signals of a message in a database: ``Signals("Alive",
+    crc="Checksum")``.
 
-    The counter starts at 0 and has `modulo` values, by default as many as its signal can have. The checksum must
+    The counter starts at 0 and has `modulo` values, by default all values that fit into its signal. The checksum must
     consist of whole bytes. `function` computes the checksum from all other bytes of the message; the default is the
     CRC-8 of SAE J1850.
     """
@@ -319,7 +322,7 @@ class Signals(Profile):
 
 
 def _place(content: bytearray, signal: "SignalFormat", number: int) -> None:
-    """Writes a number to the bits of a signal."""
+    """Writes an integer to the bits of a signal."""
     for place, bit in enumerate(signal.bits):
         content[bit // 8] = content[bit // 8] & ~(1 << bit % 8) & 0xFF | (number >> place & 1) << bit % 8
 
@@ -336,8 +339,8 @@ class Protection(NamesWhatThereIs):
         self._faults: list[Fault] = []
 
     def inject(self, fault: Fault, count: int = 1) -> None:
-        """Injects a fault into the next `count` frames: a `wrong crc`, a `repeated` counter, or `some lost`, which
-        skips a counter value."""
+        """Injects a fault into the next `count` frames: a `wrong crc`, a `repeated` counter value, or `some lost`,
+        which skips a counter value."""
         if fault not in FAULTS:
             raise ValueError(f"fault is one of {', '.join(FAULTS)}, not {fault!r}{meant(str(fault), FAULTS)}")
         if isinstance(count, bool) or not isinstance(count, int) or count < 1:
@@ -345,7 +348,7 @@ class Protection(NamesWhatThereIs):
         self._faults += [fault] * count
 
     def applied(self, data: bytes) -> bytes:
-        """Returns the bytes of the next frame after setting its counter and checksum, and applying the next fault."""
+        """Returns the bytes of the next frame, with its counter and checksum set and the next injected fault applied."""
         fault = self._faults.pop(0) if self._faults else None
         self._next += {"repeated": -1, "some lost": 1}.get(fault or "", 0)
         content = self.profile.protect(data, self._next)
@@ -358,7 +361,7 @@ class Protection(NamesWhatThereIs):
 
 
 class Checker:
-    """Checks the frames of a received message, one after the other."""
+    """Checks the received frames of one message, one after another."""
 
     def __init__(self, profile: Profile) -> None:
         #: The profile.

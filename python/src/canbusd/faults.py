@@ -1,11 +1,11 @@
-"""Faults of a bus: which attempts fail, and how.
+"""Faults on a bus: which attempts fail, and how.
 
     faults = Faults().next(32, sender="ecu").destroyed().always(id=0x7DF).local("crc", ["tester"])
     faults = Faults().destroyed(range(32)).last_bit(40).local("crc", ["can1"], 41)
 
-The first example has rules, which select the sender and the frame; `canbusd.rules` defines their meaning. The second
-has lines for numbered attempts. Numbers start at 0 and count only attempts with a frame. A line takes precedence over
-the rules, and a rule over later rules. Any other attempt is good.
+The first example contains rules, which select attempts by sender and frame; see `canbusd.rules`. The second contains
+lines for numbered attempts. Numbers start at 0 and count only attempts with a frame. A line takes precedence over all
+rules, and a rule over later rules. An attempt without a line or a rule has no fault.
 """
 
 import os
@@ -19,20 +19,20 @@ from canbusd.frames import EXTENDED
 from canbusd._words import GOOD, LASTBIT, MOST_RULES
 from canbusd.rules import MOST, NUMBER, VERDICT, Rule, is_rule, parse_rule
 
-# A text of this form is a malformed rule rather than the path of a missing file.
+# Matches a string that is a malformed rule rather than the path of a missing file.
 LIKE_RULE = re.compile(r"\A\S+ (?:[0-9]|.*(?:good|lastbit|last_bit|destroyed|global|local)\b)")
-# Matches a text that can't be a path.
+# Matches a string that can't be a path.
 IS_TEXT = re.compile(r"\A\Z|\n|\A(?:[0-9]+|next|always) ")
 
-# The largest identifier with 11 bits, and with 29.
+# The largest 11-bit identifier, and the largest 29-bit identifier.
 SHORT, LONG = 0x7FF, 0x1FFFFFFF
 
-#: The hint for a call that lacks a rule.
+#: The hint in the error for a method that is called without a rule.
 BY_NUMBER = "attempts are their numbers, from 0; a rule comes first: Faults().next(1).last_bit()"
-#: The remedy for a rule that has no fault yet.
+#: The hint in the error for a rule that does not have a fault yet.
 SAYS_WHICH = ".destroyed(), .last_bit(), .local(..) or .good() says which"
 
-#: The faults that destroy a frame, and the faults that only some nodes may see.
+#: The kinds of faults that destroy a frame, and the kinds that a local fault may have.
 Destroying = Literal["bit", "form"]
 Seen = Literal["stuff", "crc", "form"]
 
@@ -55,7 +55,8 @@ def local_fault(kind: str, names: Names) -> str:
 
 
 def listed(names: Names, what: str) -> list[str]:
-    """Returns the names of interfaces as a list. The error for an empty or wrong list mentions the argument `what`."""
+    """Returns a list of interface names. The error for an empty or wrong list mentions `what`, the name of the
+    argument."""
     found = names.split(",") if isinstance(names, str) else list(names) if isinstance(names, Iterable) else []
     if not found or not all(isinstance(name, str) and NAME.fullmatch(name) for name in found):
         raise ValueError(f"{what} are names of interfaces, not {names!r}")
@@ -63,23 +64,23 @@ def listed(names: Names, what: str) -> list[str]:
 
 
 def whole_number(value: object, what: str, least: int = 0) -> int:
-    """Returns a number of a rule after a check. The error for a wrong number mentions the argument `what`."""
+    """Checks and returns an integer in a rule. The error for a wrong value mentions `what`, the name of the argument."""
     if isinstance(value, bool) or not isinstance(value, int) or not least <= value <= MOST:
         raise ValueError(f"{what} is a number from {least} to {MOST}, not {value!r}")
     return value
 
 
 def some_bits(value: object, what: str, most: int) -> int:
-    """Returns an identifier or a mask of a rule after a check. The error for a wrong value mentions the argument
-    `what`."""
+    """Checks and returns an identifier or a mask in a rule. The error for a wrong value mentions `what`, the name of
+    the argument."""
     if isinstance(value, bool) or not isinstance(value, int) or not 0 <= value <= most:
         raise ValueError(f"{what} is a number from 0 to 0x{most:X}, not {value!r}")
     return value
 
 
 def identifier_words(id: Optional[int], mask: Optional[int], extended: Optional[bool]) -> Optional[tuple[int, int]]:
-    """Returns the identifier word and the mask of a rule. The rule matches either frames with 11 bits or frames with 29
-    bits."""
+    """Returns the identifier word and the mask of a rule. The rule matches only 11-bit identifiers or only 29-bit
+    identifiers."""
     if id is None:
         if mask is not None or extended is not None:
             raise ValueError("mask and extended belong to an id, and none is given")
@@ -91,30 +92,31 @@ def identifier_words(id: Optional[int], mask: Optional[int], extended: Optional[
 
 
 class Chosen:
-    """The attempts that a rule selects. Each method sets the fault of these attempts, and returns the Faults with the
-    rule."""
+    """The attempts that a rule selects. Each method sets the fault of these attempts, and returns the Faults object
+    with the rule."""
 
     def __init__(self, head: Rule, add: Callable[[Rule], "Faults"]) -> None:
         self._head, self._add = head, add
 
     @explained()
     def good(self) -> "Faults":
-        """No fault: the rule protects its attempts from later rules."""
+        """Sets no fault, which protects the attempts from later rules."""
         return self._given(GOOD)
 
     @explained()
     def destroyed(self, kind: Destroying = "bit") -> "Faults":
-        """All nodes see a fault, a `bit` or a `form` error, and the frame is destroyed."""
+        """Sets a fault that all nodes see, a `bit` or a `form` error. The frame is destroyed."""
         return self._given(global_fault(kind))
 
     @explained()
     def last_bit(self) -> "Faults":
-        """The sender sees a fault in the last bit: the other nodes accept the frame, and the sender sends it again."""
+        """Sets a fault in the last bit that only the sender sees. The other nodes accept the frame, and the sender
+        sends it again."""
         return self._given(LASTBIT)
 
     @explained()
     def local(self, kind: Seen, names: Names) -> "Faults":
-        """Only these interfaces see a fault: a `stuff`, a `crc` or a `form` error."""
+        """Sets a `stuff`, `crc` or `form` error that only these interfaces see."""
         return self._given(local_fault(kind, names))
 
     def __repr__(self) -> str:
@@ -131,7 +133,7 @@ class Chosen:
 
 
 class Faults(NamesWhatThereIs):
-    """The rules and lines of a fault script. Each method adds to the script, and returns the Faults object."""
+    """The rules and lines of a fault script. Each method adds a rule or a line, and returns the Faults object."""
 
     _INSTEAD = {
         **dict.fromkeys(
@@ -158,10 +160,10 @@ class Faults(NamesWhatThereIs):
     ) -> Chosen:
         """Begins a rule for the next `count` matching attempts. The next method call sets their fault.
 
-        `sender` names one or more sending interfaces. `id` is the identifier of the frame; it has 29 bits if it is
-        0x800 or more, or with `extended=True`. With a `mask`, the rule matches all identifiers that have the same bits
-        in the mask. Data frames, remote frames and FD frames all match. The rule leaves the first `skip` matching
-        attempts to later rules. A retransmission is an attempt like any other.
+        `sender` names one or more sending interfaces. `id` is the identifier of the frame; it is a 29-bit identifier if
+        it is 0x800 or more, or with `extended=True`. With a `mask`, the rule matches all identifiers that agree with
+        `id` in the bits of the mask. Data frames, remote frames and FD frames can all match. The rule does not apply to
+        the first `skip` matching attempts, which are left to later rules. A retransmission counts as an attempt.
         """
         return self._chosen(whole_number(count, "count", 1), sender, id, mask, extended, skip)
 
@@ -199,24 +201,25 @@ class Faults(NamesWhatThereIs):
 
     @explained(BY_NUMBER)
     def good(self, attempts: Attempts) -> "Faults":
-        """No fault, even if a rule would cause one."""
+        """Sets no fault for these attempts, even if a rule would set one."""
         return self._add(GOOD, attempts)
 
     @explained(BY_NUMBER)
     def destroyed(self, attempts: Attempts, kind: Destroying = "bit") -> "Faults":
-        """All nodes see a fault, a `bit` or a `form` error, and the frame is destroyed."""
+        """Sets a fault that all nodes see, a `bit` or a `form` error. The frame is destroyed."""
         return self._add(global_fault(kind), attempts)
 
     @explained(BY_NUMBER)
     def last_bit(self, attempts: Attempts) -> "Faults":
-        """The sender sees a fault in the last bit: the other nodes accept the frame, and the sender sends it again."""
+        """Sets a fault in the last bit that only the sender sees. The other nodes accept the frame, and the sender
+        sends it again."""
         return self._add(LASTBIT, attempts)
 
     @explained(BY_NUMBER)
     def local(self, kind: Seen, names: Names, attempts: Attempts) -> "Faults":
-        """Only these interfaces see a fault: a `stuff`, a `crc` or a `form` error.
+        """Sets a `stuff`, `crc` or `form` error that only these interfaces see.
 
-        The frame is destroyed if one of them is error active. If all are error passive, they miss the frame.
+        The frame is destroyed if one of them is error active. If all of them are error passive, they miss the frame.
         """
         return self._add(local_fault(kind, names), attempts)
 
@@ -235,13 +238,13 @@ class Faults(NamesWhatThereIs):
         """Returns the verdict of the script line for this attempt, such as `local crc can1`; `good` if there is no
         line.
 
-        The verdicts of rules are not included, because they depend on the run.
+        Rules are not considered, because their verdicts depend on the run.
         """
         return self._verdicts.get(whole_number(attempt, "attempt"), GOOD)
 
     @property
     def rules(self) -> list[str]:
-        """The rules in order, each spelled as a line of the script: `next 32 from ecu global bit`."""
+        """The rules in order, each written as a line of a fault script: `next 32 from ecu global bit`."""
         return [str(rule) for rule in self._rules]
 
     def __str__(self) -> str:
@@ -261,7 +264,7 @@ class Faults(NamesWhatThereIs):
 
 
 def attempts_text(numbers: list[int]) -> str:
-    """Returns the argument that names these attempts, which must be in ascending order."""
+    """Returns the source code of an argument that names these attempts, which must be in ascending order."""
     first, last = numbers[0], numbers[-1]
     if len(numbers) > 2 and last - first == len(numbers) - 1:
         return f"range({first}, {last + 1})"
@@ -269,7 +272,8 @@ def attempts_text(numbers: list[int]) -> str:
 
 
 def call_of(verdict: str, attempts: str = "") -> str:
-    """Returns the call that adds a fault. `attempts` is the argument that names the attempts, if there is one."""
+    """Returns the source code of the call that sets a fault. `attempts` is the argument for the attempts, if there is
+    one."""
     kind, *words = verdict.split()
     given = [attempts] if attempts else []
     if kind == "global":
@@ -280,7 +284,7 @@ def call_of(verdict: str, attempts: str = "") -> str:
 
 
 def head_call(rule: Rule) -> str:
-    """Returns the call that begins a rule: `next(32, sender='ecu')`."""
+    """Returns the source code of the call that begins a rule: `next(32, sender='ecu')`."""
     senders = list(rule.senders)
     given = [] if rule.count is None else [str(rule.count)]
     given += [f"sender={senders[0]!r}" if len(senders) == 1 else f"sender={senders!r}"] if senders else []
@@ -290,7 +294,8 @@ def head_call(rule: Rule) -> str:
 
 
 def identifier_arguments(word: int, mask: int) -> list[str]:
-    """Returns the arguments that describe the identifier of a rule, without arguments that have their defaults."""
+    """Returns the source code of the arguments for a rule's identifier, without arguments that have their default
+    values."""
     identifier, bits, extended = word & ~EXTENDED, mask & ~EXTENDED, bool(word & EXTENDED)
     arguments = [f"id={identifier:#x}"]
     arguments += [] if bits == (LONG if extended else SHORT) else [f"mask={bits:#x}"]
@@ -322,7 +327,7 @@ def script_bytes(script: Optional[Script]) -> bytes:
             return file.read()
     except FileNotFoundError as fault:
         if isinstance(script, str) and LIKE_RULE.search(script):
-            # This call raises an error that explains what is wrong with the rule.
+            # This call raises an error that says what is wrong with the rule.
             parse_rule(script)
         hint = (
             f"{fault.strerror}; a text begins with the number of an attempt, as '0 lastbit' does, or with a rule, as "
@@ -332,17 +337,18 @@ def script_bytes(script: Optional[Script]) -> bytes:
 
 
 def lines_of(text: str) -> list[str]:
-    """Returns the non-empty lines of a script without comments; only LF ends a line."""
+    """Returns the non-empty lines of a script without comments. Only LF ends a line."""
     return [line for line in text.split("\n") if line and not line.startswith("#")]
 
 
 def rules_in(script: str) -> list[Rule]:
-    """Returns the rules of a script in order; raises ValueError for a malformed rule."""
+    """Returns the rules in a script, in order. Raises ValueError for a malformed rule."""
     return [parse_rule(line) for line in lines_of(script) if is_rule(line)]
 
 
 def rules_of(faults: Script) -> list[Rule]:
-    """Returns the rules of these faults; raises ValueError for other lines, which a running bus does not accept."""
+    """Returns the rules of these faults. Raises ValueError for lines with attempt numbers, which a running bus does not
+    accept."""
     lines = lines_of(script_bytes(faults).decode())
     other = next((line for line in lines if line[:1].isdigit()), None)
     if other is not None:

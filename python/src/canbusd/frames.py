@@ -1,4 +1,4 @@
-"""Frames: their fields, their spelling in candump's format, and the meaning of error message frames in words."""
+"""Frames: their fields, their format in candump logs, and the meaning of error message frames in words."""
 
 import functools
 import re
@@ -15,11 +15,11 @@ if TYPE_CHECKING:
 EXTENDED, REMOTE, ERROR = 0x80000000, 0x40000000, 0x20000000
 # The bit of a filter's identifier word that inverts the filter; ERROR is the same bit of a frame.
 INVERTED = 0x20000000
-# The meanings of the error message frame classes (linux/can/error.h) that a canbusd bus generates.
+# The meanings of the error message frame classes (linux/can/error.h) that canbusd generates.
 CLASSES = [(0x040, "bus off"), (0x100, "restarted"), (0x080, "bus error"), (0x020, "no acknowledgement")]
-# The error states in byte 1 of an error message frame with class 004.
+# The error states in data byte 1 of an error message frame with class 004.
 STATE_BITS = [(0x40, "error active"), (0x0C, "error warning"), (0x30, "error passive")]
-# The kinds of bus errors in byte 2, and the positions of bus errors in byte 3.
+# The kinds of bus errors in data byte 2, and the positions of bus errors in data byte 3.
 FAULTS = [(0x01, "bit error"), (0x02, "form error"), (0x04, "stuff error")]
 SENDING = 0x80
 PLACES = {
@@ -31,16 +31,17 @@ PLACES = {
 }
 # The flags of an FD frame, as in linux/can.h.
 BRS, ESI = 0x1, 0x2
-# The possible numbers of bytes in an FD frame.
+# The possible data lengths of an FD frame in bytes.
 FD_LENGTHS = (*range(9), 12, 16, 20, 24, 32, 48, 64)
-# Matches an error message frame in the spelling of a record.
+# Matches an error message frame as it is written in a record.
 ERROR_FRAME = "[23][0-9A-F]{7}#[0-9A-F]{16}"
 
-# cansend's spelling: an FD frame has a second # and a digit for its flags.
+# The format of cansend: an FD frame has a second # and a digit with its flags.
 SPELLING = re.compile("([0-9A-Fa-f]+)#(?:#([0-9A-Fa-f]))?([0-9A-Fa-fRr.]*)")
-# MESSAGE matches a message by which a session receives a frame or an error message frame; HANDED_OVER has its possible
-# first words. An FD frame with flags has these after the first word. On request, the message also says whether the same
-# interface sent the frame, and the frame's number at that interface. In replies, no timestamp follows `error`.
+# MESSAGE matches a protocol message that delivers a frame or an error message frame to a session. HANDED_OVER lists its
+# possible first words. For an FD frame with flags, the flags follow the first word. On request, the message also says
+# whether the same interface sent the frame, and the number of the frame at that interface. In replies, no timestamp
+# follows `error`.
 HANDED_OVER = ("frame", "fdframe", "remote", "error")
 MESSAGE = re.compile(
     "(frame|fdframe|fdframex [0-3]|remote|error) ([0-9A-F]+) ([0-9]+[.][0-9]{6})(?: +([0-9A-F]*))?"
@@ -53,12 +54,12 @@ NEW, SET = object.__new__, object.__setattr__
 
 
 class BadFrame(ValueError):
-    """The reason why a text or a set of fields is not a frame."""
+    """A string or a set of fields is not a valid frame. The message says why."""
 
 
 def data_bytes(data: object) -> bytes:
-    """Returns the payload of a frame as bytes. Raises BadFrame for a text or a number, which `bytes` would convert to
-    something else."""
+    """Returns the payload of a frame as bytes. Raises BadFrame for a string or an int, which would not be converted to
+    the intended bytes."""
     if isinstance(data, str) and re.fullmatch("(?:[0-9A-Fa-f]{2} ?)+", data):
         raise BadFrame(f"data is bytes, such as bytes.fromhex({data!r}), not {data!r}")
     if isinstance(data, (str, int)) or not isinstance(data, Iterable):
@@ -73,8 +74,8 @@ def data_bytes(data: object) -> bytes:
 class Frame(NamesWhatThereIs):
     """A sent or received frame, with the attribute names of python-can's `Message`.
 
-    `str()` returns candump's spelling, `123#1122`, which `Frame.parse` reads. Unlike a `Message`, a frame has an 11-bit
-    identifier by default. Comparison ignores the timestamp and the sender.
+    `str()` returns candump's format, `123#1122`, which `Frame.parse` reads. Unlike a `Message`, a frame has an 11-bit
+    identifier by default. Comparisons ignore the timestamp and `is_rx`.
     """
 
     arbitration_id: int
@@ -83,14 +84,14 @@ class Frame(NamesWhatThereIs):
     is_remote_frame: bool = False
     is_error_frame: bool = False
     is_fd: bool = False
-    #: The number of data bytes; for a remote frame, the requested number.
+    #: The number of data bytes; for a remote frame, the number of requested bytes.
     dlc: int = 0
     timestamp: float = field(default=0.0, compare=False)
-    #: False if the receiving session sent the frame itself.
+    #: False if the frame was sent by the same session that received it.
     is_rx: bool = field(default=True, compare=False)
     #: For an FD frame: whether the data phase uses the data bit rate.
     bitrate_switch: bool = False
-    #: For an FD frame: whether its sender signals that it is error passive.
+    #: For an FD frame: whether the sender signals that it is error passive.
     error_state_indicator: bool = False
 
     _INSTEAD = {
@@ -108,10 +109,10 @@ class Frame(NamesWhatThereIs):
 
     @classmethod
     def parse(cls, text: str, timestamp: float = 0.0) -> "Frame":
-        """Returns the frame for a text in cansend's spelling: `123#11.22`, `00000123#R4`, `123##11122`.
+        """Returns the frame for a string in cansend's format: `123#11.22`, `00000123#R4`, `123##11122`.
 
-        In the flags digit of an FD frame, 1 is the bit rate switch and 2 is the error state indicator. Other bits are
-        ignored (candump adds 4, which marks FD frames in Linux).
+        In the flags digit of an FD frame, the value 1 is the bit rate switch and 2 is the error state indicator. Other
+        bits are ignored, such as 4, which candump adds to mark FD frames.
         """
         try:
             return cls._parsed(text, timestamp)
@@ -160,14 +161,15 @@ class Frame(NamesWhatThereIs):
         return meaning(str(self))
 
     def message(self, channel: Optional[str] = None) -> "Message":
-        """Returns a python-can message for this frame."""
+        """Returns this frame as a python-can message."""
         from can.message import Message
 
         return Message(channel=channel, **vars(self))
 
 
 def frame_to_send(id: object, data: bytes = b"", *, is_extended_id: Optional[bool] = None, **more: object) -> Frame:
-    """Returns the frame with this identifier, which has 29 bits if it is above 7FF. `is_extended_id` overrides this."""
+    """Returns a frame with this identifier and data. An identifier above 7FF is a 29-bit identifier; `is_extended_id`
+    overrides this."""
     if isinstance(id, bool) or not isinstance(id, int):
         raise BadFrame(f"an identifier is a number, such as 0x123, not {id!r}")
     extended = id > 0x7FF if is_extended_id is None else is_extended_id
@@ -175,12 +177,12 @@ def frame_to_send(id: object, data: bytes = b"", *, is_extended_id: Optional[boo
 
 
 def log_line(name: str, frame: Frame) -> str:
-    """Returns the line of a log, in the format of `candump -L`: `(0000000001.000000) can0 123#1122`."""
+    """Returns a log line in the format of `candump -L`: `(0000000001.000000) can0 123#1122`."""
     return f"({frame.timestamp:017.6f}) {name} {frame}"
 
 
 def described_line(name: str, frame: Frame) -> str:
-    """Returns a log line that ends with the meaning of the frame, if the frame is an error message frame."""
+    """Returns a log line. If the frame is an error message frame, its meaning in words is appended."""
     return f"{log_line(name, frame)}  {frame.meaning}".rstrip()
 
 
@@ -233,17 +235,17 @@ class MessageLike(Protocol):
 
 
 def flags_of(number: int) -> dict[str, bool]:
-    """Returns the flags of an FD frame that are set in a number, by name."""
+    """Returns the FD flags in an integer, as a dict by field name."""
     return {"bitrate_switch": bool(number & BRS), "error_state_indicator": bool(number & ESI)}
 
 
 def flag_number(message: MessageLike) -> int:
-    """Returns the flags of a frame as a number."""
+    """Returns the FD flags of a frame as an integer."""
     return BRS * message.bitrate_switch + ESI * message.error_state_indicator
 
 
 def frame_like(message: MessageLike) -> Frame:
-    """Returns the Frame for a python-can message."""
+    """Returns a Frame with the fields of a python-can message."""
     if isinstance(message, Frame):
         return message
     return Frame(
@@ -262,7 +264,7 @@ def frame_like(message: MessageLike) -> Frame:
 
 
 def check_frame(message: MessageLike) -> None:
-    """Raises BadFrame if no frame can have these fields."""
+    """Raises BadFrame if these fields are not the fields of a valid frame."""
     most = 0x1FFFFFFF if message.is_extended_id or message.is_error_frame else 0x7FF
     if not isinstance(message.arbitration_id, int):
         raise BadFrame(f"arbitration_id is a number, such as 0x123, not {message.arbitration_id!r}")
@@ -283,7 +285,7 @@ def check_frame(message: MessageLike) -> None:
 
 
 def command_of(message: MessageLike) -> str:
-    """Returns the message by which a session sends a frame or a python-can message, without `<` and `>`."""
+    """Returns the command by which a session sends a frame or a python-can message, without `<` and `>`."""
     if message.__class__ is not Frame:
         check_frame(message)
     if message.is_error_frame:
@@ -298,7 +300,8 @@ def command_of(message: MessageLike) -> str:
 
 
 def frame_of_message(make: Callable[..., Made], kind: str, *words: str) -> Made:
-    """Returns the result of `make` for the words of a message that delivers a frame."""
+    """Calls `make` with the fields of a frame, and returns the result. The words are those of a protocol message that
+    delivers the frame."""
     if kind == "fdframex":
         flags, *words_of_frame = words
         return made(make, "fdframe", *words_of_frame, flags=int(flags))
@@ -306,7 +309,7 @@ def frame_of_message(make: Callable[..., Made], kind: str, *words: str) -> Made:
 
 
 def made(make: Callable[..., Made], kind: str, digits: str, moment: str, payload: str = "", *, flags: int = 0) -> Made:
-    """Returns the result of `make` for the words of a message that delivers a frame with these flags."""
+    """Calls `make` with the fields of a frame and these flags, and returns the result."""
     is_remote, is_error = kind == "remote", kind == "error"
     data = b"" if is_remote else bytes.fromhex(payload)
     return make(
@@ -323,27 +326,29 @@ def made(make: Callable[..., Made], kind: str, digits: str, moment: str, payload
 
 
 def without_origin(message: str) -> tuple[str, Optional[int]]:
-    """Removes ` same 17` or ` other 17` from a message that delivers a frame. Also returns the number after `same`,
-    which means that the same interface sent the frame; else None."""
+    """Removes ` same 17` or ` other 17` from a message that delivers a frame. Returns the message, and the number after
+    `same`, which means that the same interface sent the frame. Without `same`, the number is None."""
     message, _, number = message.partition(" same ")
     return message.partition(" other ")[0], int(number) if number else None
 
 
 @functools.lru_cache(maxsize=4096)
 def fields_of(kind: str, digits: str) -> dict[str, object]:
-    """Returns the fields of a frame that are determined by the first words of its message."""
+    """Returns the fields of a frame that depend only on the first words of its protocol message."""
     return vars(frame_of_message(Frame, *kind.split(" "), digits, "0.0", "0" if kind == "remote" else ""))
 
 
 def with_fields(fields: dict[str, object]) -> Frame:
-    """Returns the frame with these fields without checking them. The constructor of the frozen dataclass takes longer."""
+    """Returns a frame with these fields, without checking them. Calling the constructor of the frozen dataclass would
+    be slower."""
     frame = NEW(Frame)
     SET(frame, "__dict__", fields)
     return frame
 
 
 def frame_of(message: str) -> Optional[Frame]:
-    """Returns the frame in a session's message, which is given without `<` and `>`; None if the message is an answer."""
+    """Returns the frame in a protocol message to a session. The message is given without `<` and `>`. Returns None if
+    the message is a reply."""
     words = MESSAGE.fullmatch(message.strip())
     if not words:
         return None
@@ -361,12 +366,12 @@ def frame_of(message: str) -> Optional[Frame]:
 
 
 def is_fd(text: str) -> bool:
-    """Returns whether this text is the spelling of an FD frame."""
+    """Returns whether this string is an FD frame in candump's format."""
     return "##" in text
 
 
 def is_error(text: str) -> bool:
-    """Returns whether this text is the spelling of an error message frame."""
+    """Returns whether this string is an error message frame in candump's format."""
     return text[0] in "23" and text.find("#") == 8
 
 
@@ -386,7 +391,7 @@ def meaning(text: str) -> str:
 
 
 def fault_words(data: bytes) -> list[str]:
-    """Returns the kind and the position of a bus error, in words."""
+    """Returns the kind and the position of a bus error in words."""
     words = [name for bit, name in FAULTS if data[2] & bit]
     if data[2] & SENDING:
         words.append("while sending")
@@ -396,15 +401,15 @@ def fault_words(data: bytes) -> list[str]:
 
 
 def identifier_word(frame: MessageLike) -> int:
-    """Returns the word of a frame that filters check: the identifier, and bits for extended and remote frames."""
+    """Returns the word of a frame that filters compare: the identifier, and one bit each for extended and remote
+    frames."""
     return frame.arbitration_id | EXTENDED * frame.is_extended_id | REMOTE * frame.is_remote_frame
 
 
 def passes_filters(word: int, filters: Sequence[tuple[int, int]], join: bool) -> bool:
-    """Returns whether an identifier word passes these filters, each a pair of identifier word and mask
-    (linux/can/raw.h).
-
-    The word must match one filter, or all filters if `join` is true. Without filters no word passes.
+    """Returns whether an identifier word passes these filters. Each filter is a pair of identifier word and mask
+    (linux/can/raw.h). The word must match at least one filter, or all filters if `join` is true. Without filters, no
+    word passes.
     """
     matches = [((word ^ identifier) & mask == 0) != bool(identifier & INVERTED) for identifier, mask in filters]
     return bool(matches) and (all(matches) if join else any(matches))

@@ -1,4 +1,5 @@
-"""ISO-TP on the interfaces of a server: with can-isotp if it is installed, with a socket of canbusd-run, or in Python.
+"""ISO-TP on the interfaces of a server, with one of three implementations: can-isotp, a socket of canbusd-run, or
+Python.
 
     with server.isotp("ecu", tx=0x7E8, rx=0x7E0) as ecu, server.isotp("tester", tx=0x7E0, rx=0x7E8) as tester:
         tester.send(b"\\x22\\xf1\\x90")
@@ -33,17 +34,18 @@ if TYPE_CHECKING:
 HOW_TO_GET = "`pip install can-isotp`, or canbusd-run beside the program"
 #: The implementations.
 LIBRARIES = ("can-isotp", "canbusd-run", "canbusd")
-#: The program that canbusd-run starts to open the socket.
+#: The program that opens the socket. It is started by canbusd-run.
 SOCKET_PROGRAM = os.path.join(os.path.dirname(__file__), "_process", "isotp_socket.py")
-#: How many seconds the process with the socket may take to start, and to end.
+#: Time limits in seconds for the process with the socket to start, and to exit.
 START, END = 20.0, 5.0
 
 
 def open_isotp(
     opened: "Callable[..., CanbusdBus]", address: str, channel: str, options: Options, library: Optional[str] = None
 ) -> IsoTp:
-    """Returns one end of a connection on an interface. `opened` opens a python-can bus on an interface. `library` names
-    the implementation; the default is the first available implementation that supports the options."""
+    """Returns one end of an ISO-TP connection on an interface. `opened` is a function that opens a python-can bus on an
+    interface. `library` names the implementation; the default is the first available implementation that supports the
+    options."""
     if library not in (None, *LIBRARIES):
         raise ValueError(f"library is {', '.join(map(repr, LIBRARIES[:-1]))} or {LIBRARIES[-1]!r}, not {library!r}")
     if options.functional is not None and library not in (None, "canbusd"):
@@ -67,7 +69,8 @@ def open_isotp(
 
 
 def check_physical(functional: bool) -> None:
-    """Raises ValueError for a functional request, because this implementation has no identifier for such requests."""
+    """Raises ValueError for a functional request, because this implementation has no identifier for functional
+    requests."""
     if functional:
         raise ValueError("functional=True needs the identifier of requests to all: isotp(.., functional=0x7DF)")
 
@@ -128,8 +131,9 @@ class SocketIsoTp(IsoTp):
     """An end of a connection that uses a CAN_ISOTP socket in another process, which canbusd-run starts. The two
     processes communicate over a pair of sockets.
 
-    A packet to that process is a message to send. A packet from that process begins with a letter: `r` precedes a
-    received message, `s` precedes the errno of a send (0 for success), and `e` precedes the errno of a failed receive.
+    Each packet to that process is a message to send. Each packet from that process begins with a letter: `r` is
+    followed by a received message, `s` by the errno of a send (0 for success), and `e` by the errno of a failed
+    receive.
     """
 
     library = "canbusd-run"
@@ -174,7 +178,7 @@ class SocketIsoTp(IsoTp):
         return None if answer is None else self._taken(answer)
 
     def _taken(self, packet: bytes) -> bytes:
-        """Returns the bytes of a packet; raises the error in a packet that carries one."""
+        """Returns the content of a packet. If the packet contains an errno other than 0, raises the error."""
         if packet[:1] == b"r":
             return packet[1:]
         number = int(packet[1:])
@@ -185,7 +189,7 @@ class SocketIsoTp(IsoTp):
         return b""
 
     def close(self) -> None:
-        # The process ends when this end of the socket pair is closed.
+        # The process exits when this end of the socket pair is closed.
         self._own.close()
         try:
             self._child.wait(END)
@@ -199,7 +203,7 @@ class SocketIsoTp(IsoTp):
         """Returns the next packet that begins with one of these letters; None if no packet arrives within `timeout`
         seconds.
 
-        If several threads wait, one of them reads packets and stores those for the other threads.
+        If several threads wait, one of them reads all packets, and stores the packets of the other threads.
         """
         deadline = None if timeout is None else time.monotonic() + timeout
         with self._news:
@@ -217,7 +221,7 @@ class SocketIsoTp(IsoTp):
                     self._read(left)
 
     def _read(self, left: Optional[float]) -> None:
-        """Reads a packet, if one arrives within this time. Meanwhile, other threads may check the stored packets."""
+        """Reads a packet, if one arrives within `left` seconds. Meanwhile, other threads may check the stored packets."""
         self._is_read = True
         self._news.release()
         try:
@@ -234,14 +238,14 @@ class SocketIsoTp(IsoTp):
             self._received.append(packet)
 
     def _said(self) -> str:
-        """Returns the last line of the process's standard error, after the process has ended."""
+        """Returns the last line that the process wrote to standard error, after the process has exited."""
         assert self._child.stderr is not None
         return self._child.stderr.read().decode(errors="replace").strip().split("\n")[-1] or "without a word"
 
 
 def outage_of(address: str, channel: str) -> str:
-    """Returns the reason why an interface is off the bus, if the server reports one: `bus off` or `down`; else the
-    empty string."""
+    """Returns why an interface is off the bus, if the server reports a reason: `bus off` or `down`; otherwise the empty
+    string."""
     # Errors of python-can are also suppressed, if it is installed: without an answer from the server, there is no
     # reason.
     with contextlib.suppress(Exception):

@@ -6,9 +6,9 @@
     bus.attempt()
     assert tester.receive() == Frame(0x123, b"\\x11\\x22")
 
-Frames are transmitted during `attempt` and `run`. With `attempts="sent"`, they are transmitted when they are sent.
-python-can uses the bus in this way: `can.Bus(interface="canbusd", channel="can0", local=bus)`. Several threads may use
-one bus: each call is completed before the next call begins. This module does not need python-can.
+Frames are transmitted during `attempt` and `run`. With `attempts="sent"`, they are transmitted during the call that
+sends them. With python-can: `can.Bus(interface="canbusd", channel="can0", local=bus)`. Several threads may use one bus:
+each call is completed before the next call begins. This module does not need python-can.
 """
 
 import ctypes
@@ -48,17 +48,17 @@ OUTCOMES: tuple[Outcome, ...] = ("idle", "done", "lastbit", "destroyed", "noack"
 ERR_FILTER, LOOPBACK, RECV_OWN, FD_FRAMES, JOIN = 2, 3, 4, 5, 6
 FDF = 4
 BAD_RUN = 23
-# The offsets of the outcome and of the timestamp in the struct canbusd_tried.
+# The offsets of the outcome and of the timestamp in struct canbusd_tried.
 OUTCOME_AT, MOMENT_AT = 72, 88
 MOMENT = struct.Struct("=Q")
-# The maximum number of frame heads that are cached.
+# The maximum number of entries in the cache of frame heads.
 MOST_HEADS = 4096
 put_frame, item_in, tried_in = lib.FRAME.pack_into, lib.ITEM.unpack, lib.TRIED.unpack
 
 
 class HeadsOfFrames(dict[bytes, tuple[dict[str, object], int]]):
-    """The cached fields of frames, by the first bytes of their structs, and how many bytes of data follow. Computing
-    the fields takes longer than a call of the library."""
+    """A cache for the fields of frames and their data lengths. The key is the head of a frame's struct. Computing the
+    fields takes longer than a call of the library."""
 
     def __missing__(self, head: bytes) -> tuple[dict[str, object], int]:
         word, length, flags = lib.HEAD.unpack(head)
@@ -86,7 +86,7 @@ HEADS = HeadsOfFrames()
 
 
 def frame_of(head: bytes, data: bytes, micros: int) -> Frame:
-    """Returns the frame in a struct of the library without checking its fields."""
+    """Returns the frame in a struct of the library, without checking its fields."""
     fields, length = HEADS[head]
     fields = fields.copy()
     fields["data"] = data[:length]
@@ -95,12 +95,12 @@ def frame_of(head: bytes, data: bytes, micros: int) -> Frame:
 
 
 class Tried:
-    """The outcome of an attempt that tried to send a frame."""
+    """The outcome of an attempt to send a frame."""
 
     __slots__ = ("_names", "_struct")
 
     def __init__(self, names: Sequence[str], tried: bytes) -> None:
-        # The struct is decoded when one of the fields is read.
+        # The struct is decoded only when one of the properties is read.
         self._names, self._struct = names, tried
 
     @property
@@ -111,17 +111,18 @@ class Tried:
 
     @property
     def winner(self) -> str:
-        """The interface that sent the frame."""
+        """The interface that won arbitration."""
         return self._names[self._field(3)]
 
     @property
     def number(self) -> int:
-        """The number of the frame at the interface that sent it."""
+        """The number of the frame at the interface that won arbitration."""
         return self._field(4)
 
     @property
     def outcome(self) -> Outcome:
-        """`done` if the frame was sent and received, or how the attempt failed: `lastbit`, `destroyed` or `noack`."""
+        """`done` if the frame was sent and received. Otherwise, how the attempt failed: `lastbit`, `destroyed` or
+        `noack`."""
         return OUTCOMES[self._field(2)]
 
     @property
@@ -136,7 +137,7 @@ class Tried:
 
     @property
     def restarted(self) -> tuple[str, ...]:
-        """The interfaces that were restarted after this attempt."""
+        """The interfaces that were restarted automatically after this attempt."""
         return self._named(8)
 
     def _field(self, place: int) -> int:
@@ -159,7 +160,7 @@ class Tried:
 
 
 class LocalSocket(NamesWhatThereIs):
-    """A raw socket on an interface of a local bus. `LocalBus.open` returns it."""
+    """A raw socket on an interface of a local bus, created by `LocalBus.open`."""
 
     _INSTEAD = {
         **dict.fromkeys(("recv", "read"), "receive() returns the oldest frame, or None"),
@@ -168,9 +169,9 @@ class LocalSocket(NamesWhatThereIs):
 
     def __init__(self, bus: "LocalBus", number: int, channel: str) -> None:
         self._bus, self._number = bus, number
-        #: The name of the interface that the socket is on.
+        #: The name of the socket's interface.
         self.channel = channel
-        # The arguments of the calls for each frame, stored as ctypes objects.
+        # The arguments of the library calls for each frame, as reusable ctypes objects.
         self._given = ctypes.c_uint32(number)
         self._sent = ctypes.create_string_buffer(lib.FRAME.size)
         self._room = ctypes.create_string_buffer(lib.ITEM.size)
@@ -185,7 +186,7 @@ class LocalSocket(NamesWhatThereIs):
         is_fd: bool = False,
     ) -> None:
         """Puts a frame into the transmit queue of the interface. The argument is a Frame, or an identifier followed by
-        its data.
+        data.
 
         :raises Refused: `no buffers`, `bus off`, `interface down`, `fd frames off` or `record full`
         """
@@ -194,7 +195,7 @@ class LocalSocket(NamesWhatThereIs):
             flags = FDF + flag_number(frame) if frame.is_fd else 0
             word |= ERROR * frame.is_error_frame
         elif is_extended_id is None and not is_fd and data.__class__ is bytes and frame.__class__ is int and frame >= 0:
-            # For the most common kind of frame, the library itself checks the fields.
+            # For the most common kind of frame, the fields are checked by the library.
             length, word, flags = len(data), frame if frame < 0x800 else frame | EXTENDED, 0
             if length > 8 or frame >= EXTENDED >> 2:
                 frame_to_send(frame, data)
@@ -211,7 +212,7 @@ class LocalSocket(NamesWhatThereIs):
                 bus._settle()
 
     def receive(self) -> Optional[Frame]:
-        """Returns the oldest frame or error message frame in the receive queue, or None."""
+        """Returns the oldest frame or error message frame in the receive queue; None if the queue is empty."""
         bus = self._bus
         with bus._turn:
             code = bus._receive(bus._handle, self._given, self._room)
@@ -223,8 +224,8 @@ class LocalSocket(NamesWhatThereIs):
         return frame_of(head, data, micros)
 
     def wait(self, timeout: Optional[float] = None) -> Optional[Frame]:
-        """Returns the oldest frame, and waits until another thread sends one if the queue is empty; None after
-        `timeout` seconds."""
+        """Returns the oldest frame in the receive queue. If the queue is empty, waits until another thread sends a
+        frame. Returns None after `timeout` seconds."""
         bus = self._bus
         with bus._news:
             found: list[Frame] = []
@@ -243,14 +244,13 @@ class LocalSocket(NamesWhatThereIs):
         return found[0] if found else None
 
     def set_filters(self, filters: Optional[Filters] = None) -> None:
-        """Receives only frames that match one of these filters, by the rules of linux/can.h. With None, all frames are
-        received."""
+        """Receives only frames that match one of these filters, by the rules of linux/can.h. None removes the filters."""
         pairs = [(0, 0)] if filters is None else [filter_words(one) for one in filters]
         packed = b"".join(lib.FILTER.pack(*pair) for pair in pairs)
         self._bus._call("set_filters", self._number, packed or None, len(pairs))
 
     def set_option(self, option: int, value: int) -> None:
-        """Sets an option by its number in linux/can/raw.h."""
+        """Sets a socket option, given by its number in linux/can/raw.h."""
         self._bus._call("set_option", self._number, option, value)
 
     def stats(self) -> Stats:
@@ -259,7 +259,7 @@ class LocalSocket(NamesWhatThereIs):
         return Stats(*counts, *self._bus._status(self.channel)[3:])
 
     def close(self) -> None:
-        """Closes the socket. Frames that it sent remain in the transmit queue."""
+        """Closes the socket. Frames that were sent through it remain in the transmit queue."""
         self._bus._call("close", self._number, None)
 
 
@@ -267,7 +267,7 @@ class LocalBus(NamesWhatThereIs):
     """A bus with these interfaces, given as `"can0,can1"` or a list. The options are the same as for a Bench.
 
     With `attempts="sent"`, each call that sends a frame also makes attempts until no frame is queued. On a bus with bit
-    rates, these attempts take as long as their bits, and `moment` advances.
+    rates, these attempts last as long as their bits, and `moment` advances.
     """
 
     _INSTEAD = {
@@ -300,17 +300,17 @@ class LocalBus(NamesWhatThereIs):
         #: The names of the interfaces.
         self.names, faults = bus_of(names, faults)
         rates = rates_by_bus({self.names[0]: self.names}, bitrate, data_bitrate, dbitrate)[self.names[0]]
-        #: The current time of the bus in microseconds. Attempts are made at this time; on a bus with bit rates they
-        #: advance it.
+        #: The current time of the bus in microseconds, at which attempts are made. On a bus with bit rates, attempts
+        #: advance this time.
         self.moment = 0
         self._is_timed = rates is not None
         self._settles = attempts == "sent"
         self._turn = threading.RLock()
         self._news = threading.Condition(self._turn)
-        # The number of threads that wait for a frame.
+        # The number of threads that are waiting for a frame.
         self._waiting = 0
         config = lib.config_of(len(self.names), ack, report, auto_restart, txqueue, limit, rates)
-        # The pointer to the bus of the library; NULL after the bus is closed.
+        # The library's pointer to the bus; NULL after the bus is closed.
         self._handle = ctypes.c_void_p()
         functions = library()
         code = functions.canbusd_new(",".join(self.names).encode(), config, ctypes.addressof(self._handle))
@@ -318,7 +318,7 @@ class LocalBus(NamesWhatThereIs):
             raise Refused(text_of(code))
         self._end = weakref.finalize(self, functions.canbusd_free, self._handle.value)
         self._send, self._receive, self._attempt = lib.quick("send"), lib.quick("receive"), lib.quick("attempt")
-        # The arguments of the calls for each attempt, stored as ctypes objects.
+        # The arguments of the library calls for each attempt, as reusable ctypes objects.
         self._at, self._tried = ctypes.c_uint64(), ctypes.create_string_buffer(lib.TRIED.size)
         if faults is not None:
             self.inject(faults)
@@ -332,7 +332,7 @@ class LocalBus(NamesWhatThereIs):
         self.close()
 
     def close(self) -> None:
-        """Frees the bus. Later calls of the bus or its sockets raise Refused."""
+        """Frees the bus. Later calls on the bus or its sockets raise Refused."""
         with self._turn:
             self._handle.value = None
             self._end()
@@ -350,8 +350,8 @@ class LocalBus(NamesWhatThereIs):
         join_filters: bool = False,
         rxqueue: int = 256,
     ) -> LocalSocket:
-        """Opens a raw socket on this interface, with a receive queue for `rxqueue` frames. The other options are the
-        same as for CanbusdBus."""
+        """Opens a raw socket on this interface. Its receive queue has room for `rxqueue` frames. The other options are
+        the same as for CanbusdBus."""
         number = ctypes.c_uint32()
         with self._turn:
             self._call("open", self._iface(channel), rxqueue, ctypes.addressof(number))
@@ -368,18 +368,17 @@ class LocalBus(NamesWhatThereIs):
         return socket
 
     def attempt(self) -> Optional[Tried]:
-        """Makes the next attempt at the time `moment`. Returns its outcome, or None if no interface had a frame to
-        send."""
+        """Makes the next attempt at the time `moment`. Returns its outcome; None if no interface has a frame to send."""
         with self._turn:
             self._attempt_once()
             tried = self._tried.raw
         return Tried(self.names, tried) if tried[OUTCOME_AT] else None
 
     def run(self, seconds: Optional[float] = None) -> int:
-        """Makes all attempts that are due, and returns their number.
+        """Makes all attempts that are due, and returns how many there were.
 
-        On a bus with bit rates, makes the attempts that begin within these seconds, and advances `moment` by the same
-        time. Without `seconds`, and on a bus without bit rates, makes attempts until no interface has a frame to send.
+        On a bus with bit rates, makes the attempts that begin within `seconds`, and advances `moment` by `seconds`.
+        Without `seconds`, or on a bus without bit rates, makes attempts until no interface has a frame to send.
         """
         with self._turn:
             if seconds is None or not self._is_timed:
@@ -387,7 +386,7 @@ class LocalBus(NamesWhatThereIs):
             made = ctypes.c_uint64()
             self.moment += round(seconds * 1e6)
             code = library().canbusd_run(self._handle, self.moment, ctypes.addressof(made))
-            # BAD_RUN means that the bus is busy for longer than these seconds, so that no attempt can begin.
+            # BAD_RUN means that the bus stays busy for longer than `seconds`, so that no attempt can begin.
             if code not in (lib.OK, BAD_RUN):
                 raise self._refused(code)
             self._news.notify_all()
@@ -416,12 +415,12 @@ class LocalBus(NamesWhatThereIs):
         self._call("down", self._iface(channel), self.moment)
 
     def load(self) -> Load:
-        """Returns the bus load and the bit rates; `Load(0, 0, 0, 0)` without bit rates."""
+        """Returns the bus load and the bit rates; `Load(0, 0, 0, 0)` if the bus has no bit rates."""
         permille, rate, fast, _, micros = lib.LOAD.unpack(self._read("get_load", self.moment, lib.LOAD.size))
         return Load(permille, micros, rate, fast)
 
     def record(self) -> bytes:
-        """Returns the text of the record, which `canbusd audit` and `read_record` can read."""
+        """Returns the record of the bus as bytes, which `canbusd audit` and `read_record` can read."""
         with self._turn:
             length = ctypes.c_size_t()
             self._call("record", None, 0, ctypes.addressof(length))
@@ -450,18 +449,18 @@ class LocalBus(NamesWhatThereIs):
             made += 1
 
     def _iface(self, channel: str) -> int:
-        """Returns the number of an interface."""
+        """Returns the index of an interface."""
         if channel not in self.names:
             raise Refused(f"no such interface {channel!r}; the bus has {', '.join(self.names)}")
         return self.names.index(channel)
 
     def _status(self, channel: str) -> tuple[int, ...]:
-        """Returns the fields of an interface's status struct, without the unused field."""
+        """Returns the fields of an interface's status struct, without its unused field."""
         state, tec, rec, _, *counts = lib.STATUS.unpack(self._read("get_status", self._iface(channel), lib.STATUS.size))
         return (state, tec, rec, *counts)
 
     def _read(self, name: str, of: int, size: int) -> bytes:
-        """Calls a library function that fills a buffer, and returns the bytes of the buffer."""
+        """Calls a library function that fills a buffer, and returns the content of the buffer."""
         room = ctypes.create_string_buffer(size)
         self._call(name, of, ctypes.addressof(room))
         return room.raw

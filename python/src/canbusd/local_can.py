@@ -1,4 +1,4 @@
-"""The python-can interface `canbusd` on a bus inside this process: `can.Bus(interface="canbusd", channel="can0",
+"""The python-can interface `canbusd` for a bus inside this process: `can.Bus(interface="canbusd", channel="can0",
 local=bus)`."""
 
 from typing import Any, Optional
@@ -17,8 +17,8 @@ from canbusd.local import LocalBus, LocalSocket, Refused
 
 
 class LocalCanbusdBus(BusABC):
-    """A raw socket on an interface of a LocalBus. With ``attempts="sent"``, frames are transmitted when they are sent;
-    else by ``local.attempt()`` and ``local.run()``.
+    """A raw socket on an interface of a LocalBus. With ``attempts="sent"``, frames are transmitted during the call that
+    sends them; otherwise by ``local.attempt()`` and ``local.run()``.
 
     :param channel: the name of the interface
     :param local: the bus inside this process
@@ -27,7 +27,7 @@ class LocalCanbusdBus(BusABC):
     """
 
     def __init__(self, channel: str, can_filters: Optional[Filters] = None, *, local: LocalBus, **kwargs: Any) -> None:
-        # Since version 4.3, python-can warns about a bus without a shutdown, even if its constructor failed.
+        # Since version 4.3, python-can warns about a bus that was not shut down, even if its constructor failed.
         self._is_shutdown = True
         self.channel, self.local = channel, local
         self.channel_info = f"canbusd: channel '{channel}' of a bus in this process"
@@ -39,8 +39,8 @@ class LocalCanbusdBus(BusABC):
         self._is_shutdown = False
 
     def send(self, msg: Message, timeout: Optional[float] = None) -> None:
-        """Puts a message into the transmit queue of the interface. If the queue is full, raises CanOperationError at
-        once."""
+        """Puts a message into the transmit queue of the interface. If the queue is full, raises CanOperationError
+        immediately."""
         try:
             self._socket.send(frame_like(msg))
         except Refused as fault:
@@ -55,7 +55,7 @@ class LocalCanbusdBus(BusABC):
 
     @property
     def state(self) -> BusState:
-        """The state of the interface: ACTIVE up to error warning, PASSIVE, or ERROR if it is bus off or down."""
+        """The state of the interface: ACTIVE (even at error warning), PASSIVE, or ERROR if it is bus off or down."""
         return BUS_STATES[self.error_counters().state]
 
     @state.setter

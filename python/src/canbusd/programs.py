@@ -1,4 +1,5 @@
-"""Programs whose CAN sockets are on the buses of a server: their command lines, and programs that run during a test."""
+"""Programs whose CAN sockets are on the buses of a server. They run to completion, or in the background during a test.
+"""
 
 import errno
 import os
@@ -19,17 +20,17 @@ from canbusd._session.arguments import check_within
 from canbusd._session.connection import LONGEST_POLL, POLL
 from canbusd._text import seconds_words
 
-#: A program and its arguments, as a list of words or as a text that is split like in a shell.
+#: A program and its arguments: a list of words, or a string that is split as a shell would split it.
 Words = Union[str, Sequence[Union[str, "os.PathLike[str]"]]]
-#: Characters that only a shell interprets; text with such a character is refused.
+#: Characters that only a shell interprets. A string with such a character is rejected.
 OPERATORS = frozenset("();<>|&")
-#: How many of the last output lines a failure shows.
+#: How many of the last output lines are shown in a failure message.
 LAST_LINES = 10
 
 
 def words_of(words: Words) -> list[str]:
-    """Returns a program and its arguments as a list. A string is split like in a shell; raises ValueError if the string
-    has characters that only a shell interprets."""
+    """Returns a program and its arguments as a list. A string is split as a shell would split it. Raises ValueError if
+    the string contains characters that only a shell interprets."""
     if isinstance(words, str):
         found = split(words)
     elif isinstance(words, Sequence) and all(isinstance(word, (str, os.PathLike)) for word in words):
@@ -42,14 +43,14 @@ def words_of(words: Words) -> list[str]:
 
 
 def check_no_shell(arguments: dict[str, Any]) -> None:
-    """Raises ValueError if `shell` is true. To use a shell, a test runs it as the program: its CAN sockets are then on
-    the server, too."""
+    """Raises ValueError if `shell` is true. A test that needs a shell can start the shell as the program; the CAN
+    sockets of its commands are then on the server, too."""
     if arguments.get("shell"):
         raise ValueError("shell=True: a shell is a program, too: ['sh', '-c', 'cangen can0 | ..']")
 
 
 def split(text: str) -> list[str]:
-    """Returns the words of a text, split like in a shell."""
+    """Returns the words of a string, split as a shell would split it."""
     try:
         lexer = shlex.shlex(text, posix=True, punctuation_chars=True)
         lexer.whitespace_split, lexer.commenters = True, ""
@@ -67,7 +68,8 @@ def check_program(
 ) -> None:
     """Raises the same error as subprocess if a program can't be started: FileNotFoundError or PermissionError.
 
-    This check is needed because canbusd-run starts the program, and its status 127 might also be the program's status.
+    This check is necessary because the program is started by canbusd-run, whose exit status 127 for a failed start
+    might also be the exit status of the program.
     """
     folder = cwd or ""
     places = [""] if "/" in name else os.get_exec_path(env)
@@ -80,10 +82,10 @@ def check_program(
 
 
 class Program(NamesWhatThereIs):
-    """A program that runs during the test. :meth:`canbusd.Server.start` starts it, and the server ends it.
+    """A program that runs during a test. It is started by :meth:`canbusd.Server.start`, and ended by the server.
 
-    `output` contains everything that the program has written to standard output and standard error so far. A program
-    may buffer its output and write it late.
+    `output` contains everything that the program has written to standard output and standard error so far. The program
+    may buffer its output and write it later.
     """
 
     _INSTEAD = {
@@ -97,7 +99,7 @@ class Program(NamesWhatThereIs):
     ) -> None:
         self._words, self._path, self._output = list(words), output, Output(output)
         self._may_end, self._is_stopped, self._is_off = may_end, False, False
-        # The program gets its own session. So Ctrl-C in the terminal only reaches the test.
+        # The program has its own session, so that Ctrl-C in the terminal interrupts only the test.
         how: dict[str, Any] = {"stdin": subprocess.DEVNULL, "start_new_session": True, **kwargs}
         self._command, self._how = [*command, *words], how
         output.write_bytes(b"")
@@ -120,7 +122,7 @@ class Program(NamesWhatThereIs):
         self._child = child
 
     def _restart(self) -> None:
-        """Kills the program, like a reset, and starts it again. Does nothing if the program has ended."""
+        """Kills the program, as a reset would, and starts it again. Does nothing if the program has exited."""
         if self.status is None:
             self._kill()
             self._child.wait()
@@ -128,7 +130,8 @@ class Program(NamesWhatThereIs):
             self._start()
 
     def _power_off(self) -> None:
-        """Kills the program if it is running, like a node that loses its power. This end is not reported as a fault."""
+        """Kills the program if it is running, like a node that loses power. The test does not fail because of this
+        exit."""
         if self.status is None:
             self._is_off = True
             self._kill()
@@ -136,7 +139,7 @@ class Program(NamesWhatThereIs):
             self._guard.release()
 
     def _power_on(self) -> None:
-        """Starts the program again if `_power_off` has killed it."""
+        """Starts the program again, if it was killed by `_power_off`."""
         if self._is_off:
             self._is_off = False
             self._start()
@@ -148,7 +151,7 @@ class Program(NamesWhatThereIs):
 
     @property
     def status(self) -> Optional[int]:
-        """The exit status of the program, negative if a signal ended it; None while it runs."""
+        """The exit status of the program; negative if a signal killed it, None while it is running."""
         status = self._child.poll()
         if status is not None:
             self._guard.release()
@@ -162,10 +165,10 @@ class Program(NamesWhatThereIs):
     @explained()
     def expect(self, text: str, *, within: float = 10.0) -> str:
         """Waits until the program's output contains this text, and returns the output. Raises AssertionError if the
-        text does not appear within these seconds, or if the program ends without it.
+        text does not appear within these seconds, or if the program exits before that.
 
-        If the output has more than a megabyte, only the last megabyte up to the text is returned. It follows a line
-        that says how many bytes are left out.
+        If the output is longer than a megabyte, only the last megabyte up to the text is returned, after a line that
+        says how many bytes are omitted.
         """
         __tracebackhide__ = True
         if not isinstance(text, str):
@@ -174,8 +177,7 @@ class Program(NamesWhatThereIs):
         deadline, pause = time.monotonic() + within, POLL
         with Search(self._path, text) as search:
             while True:
-                # The status is read before the output. So the last output of a program that has ended is still
-                # searched.
+                # The status is read before the output, so that all output of a program that has exited is searched.
                 has_ended = self.status is not None
                 is_read = search.goes_on(deadline)
                 if search.is_found:
@@ -189,8 +191,8 @@ class Program(NamesWhatThereIs):
 
     @explained()
     def wait(self, timeout: float) -> int:
-        """Waits until the program ends by itself, and returns its exit status. Its end is then not a fault. Raises
-        TimeoutError after `timeout` seconds."""
+        """Waits until the program exits by itself, and returns its exit status. The test does not fail because of this
+        exit. Raises TimeoutError after `timeout` seconds."""
         __tracebackhide__ = True
         try:
             status = self._child.wait(timeout)
@@ -201,11 +203,11 @@ class Program(NamesWhatThereIs):
         return status
 
     def stop(self, timeout: float = 5.0) -> int:
-        """Ends the program with SIGTERM, or its whole process group with SIGKILL after `timeout` seconds. Returns the
-        exit status.
+        """Ends the program with SIGTERM. If it is still running after `timeout` seconds, kills its whole process group
+        with SIGKILL. Returns the exit status.
 
-        If the program has already ended by itself, it is still a fault: the test fails at its end, unless `may_end` or
-        `wait` allowed this.
+        If the program had already exited by itself, the test still fails at its end, unless `may_end` or `wait` allowed
+        the exit.
         """
         if self.status is None:
             self._is_stopped = True
@@ -225,13 +227,13 @@ class Program(NamesWhatThereIs):
             pass
 
     def fault(self) -> Optional[str]:
-        """Returns a failure text if the program has ended by itself without being allowed to; else None."""
+        """Returns an error message if the program has exited by itself although this was not allowed; otherwise None."""
         if self.status is None or self._may_end or self._is_stopped or self._is_off:
             return None
         return f"{self._name()} ended before the test did; pass may_end=True if it may\n{self.shown()}"
 
     def shown(self) -> str:
-        """Returns the program's command, its status and the end of its output, for a failure text."""
+        """Returns the program's command, its status and the end of its output, for an error message."""
         state = "runs" if self.status is None else f"{'stopped, ' if self._is_stopped else ''}status {self.status}"
         lines = self._output.last_lines(LAST_LINES) or ["and no output"]
         return "\n".join([f"{self._name()}: {state}, {lines[0]}", *lines[1:]])
@@ -249,19 +251,19 @@ class RunsPrograms:
     _programs: list[Program]
 
     def _check_runs(self, what: str) -> None:
-        """Raises ServerError if the server has ended. `what` is the part of the text that says what is no longer
+        """Raises ServerError if the server has ended. `what` is the part of the message that says what is no longer
         possible."""
         raise NotImplementedError
 
     def run(
         self, words: Words, wait: bool = False, static: bool = False, **kwargs: Any
     ) -> "subprocess.CompletedProcess[Any]":
-        """Runs a program until it ends; its CAN sockets are on the buses of this server. The program is a string such
+        """Runs a program until it exits. Its CAN sockets are on the buses of this server. The program is a string such
         as ``"cansend can0 123#"``, or a list of words.
 
         With ``wait``, the program's writes block while the transmit queue is full. With ``static``, the program may be
         statically linked, or written in Go. The other arguments are those of subprocess.run, except ``shell``. A string
-        is split into words like in a shell; text that only a shell interprets raises ValueError. Raises
+        is split into words as a shell would split it; characters that only a shell interprets raise ValueError. Raises
         FileNotFoundError if there is no such program. With ``check``, an exit status other than 0 raises
         CalledProcessError.
         """
@@ -274,9 +276,9 @@ class RunsPrograms:
     def start(
         self, words: Words, wait: bool = False, may_end: bool = False, static: bool = False, **kwargs: Any
     ) -> Program:
-        """Starts a program that keeps running, such as ``"candump can0"``. The server ends the program when it stops.
+        """Starts a program in the background, such as ``"candump can0"``. The server ends the program when it stops.
 
-        If the program ends by itself before that, :meth:`stop` raises ServerError and the test fails, unless
+        If the program exits by itself before that, :meth:`stop` raises ServerError and the test fails, unless
         ``may_end`` is true. The other arguments are those of subprocess.Popen. Raises FileNotFoundError if there is no
         such program. The program's output is in :attr:`Program.output`.
         """
@@ -293,10 +295,10 @@ class RunsPrograms:
         return program
 
     def environment(self) -> dict[str, str]:
-        """Returns the environment of this process, plus the variables that connect a program's CAN sockets to this
+        """Returns the environment of this process, with the variables that connect a program's CAN sockets to this
         server.
 
-        Use it for programs that other code starts: ``subprocess.Popen(["candump", "can0"], env=server.environment())``.
+        Use it to start programs in other ways: ``subprocess.Popen(["candump", "can0"], env=server.environment())``.
         """
         words = [*self._run_words(), "env", "-0"]
         pairs = os.fsdecode(subprocess.run(words, stdout=subprocess.PIPE, check=True).stdout).split("\0")
@@ -307,8 +309,8 @@ class RunsPrograms:
         return [find_program("canbusd-run"), "--address", self.address, *options, "--"]
 
     def _end_programs(self) -> list[str]:
-        """Ends the programs that :meth:`start` has started. Returns the failure texts of programs that had already
-        ended."""
+        """Ends the programs that were started by :meth:`start`. Returns error messages for programs that had exited by
+        themselves."""
         for program in self._programs:
             program.stop()
         return [fault for program in self._programs for fault in [program.fault()] if fault is not None]

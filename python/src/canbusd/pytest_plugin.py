@@ -1,4 +1,4 @@
-"""The pytest plugin: provides a server or a bench to a test, and audits their records when the test ends.
+"""The pytest plugin: provides a server or a bench for a test, and audits its records when the test ends.
 
     @pytest.mark.canbusd("can0,can1", auto_restart=100)
     def test_a_node(canbusd):
@@ -38,7 +38,7 @@ if TYPE_CHECKING:
     from canbusd.server import Server
     from canbusd.local import LocalBus
 
-#: The buses of the fixture `canbusd` for a test whose marker names no buses.
+#: The buses of the fixture `canbusd` if the marker of the test names no buses.
 BUSES = ("can0,can1",)
 FAILED = pytest.StashKey[bool]()
 CALLED = pytest.StashKey[bool]()
@@ -46,7 +46,7 @@ CALLED = pytest.StashKey[bool]()
 USED = pytest.StashKey[bool]()
 FOR_FIXTURES = "the test takes neither the fixture canbusd nor canbusd_bench"
 PROGRAM = pytest.StashKey[bool]()
-#: The facts about the buses of a test, and the paths of the buses' pages.
+#: The description of the buses of a test, and the paths of the buses' pages.
 TEXT, PAGES = pytest.StashKey[str](), pytest.StashKey[Sequence[str]]()
 
 
@@ -64,7 +64,7 @@ def pytest_addoption(parser: pytest.Parser) -> None:
 
 
 def add_virtual_options(group: Any) -> None:
-    """Adds the options of virtual time."""
+    """Adds the options for virtual time."""
     group.addoption(
         "--canbusd-virtual",
         action="store_true",
@@ -80,7 +80,7 @@ def add_virtual_options(group: Any) -> None:
 
 @pytest.hookimpl(tryfirst=True)  # type: ignore[misc]
 def pytest_cmdline_main(config: pytest.Config) -> None:
-    """Restarts pytest in virtual time or for a sweep, if an option requests this."""
+    """Restarts pytest, in virtual time or for a sweep, if an option requests this."""
     seed, jitter = config.getoption("--canbusd-seed"), config.getoption("--canbusd-jitter")
     if sweep_options.is_swept(config):
         sweep_options.begin(config)
@@ -99,7 +99,7 @@ def pytest_cmdline_main(config: pytest.Config) -> None:
 
 
 def pytest_configure(config: pytest.Config) -> None:
-    """Describes the marker, and reads the program from the ini file."""
+    """Registers the marker, and reads the path of the program from the ini file."""
     config.addinivalue_line(
         "markers",
         "canbusd(*buses, **options): the buses of the fixtures canbusd and canbusd_bench, and their options, as of "
@@ -116,7 +116,7 @@ def pytest_configure(config: pytest.Config) -> None:
     if "CANBUSD" not in os.environ:
         os.environ["CANBUSD"] = path
         config.stash[PROGRAM] = True
-    # This comparison also holds if the pytest-xdist process that started this process has set the variable.
+    # The values are also equal if the variable was set by the pytest-xdist process that started this process.
     if os.environ["CANBUSD"] == path:
         SET_BY["CANBUSD"] = "canbusd_program in the ini file"
 
@@ -132,7 +132,7 @@ def pytest_runtestloop(session: pytest.Session) -> Optional[bool]:
 
 
 def pytest_unconfigure(config: pytest.Config) -> None:
-    """Forgets the program that the ini file names."""
+    """Stops using the program that the ini file names."""
     SET_BY.pop("CANBUSD", None)
     if config.stash.get(PROGRAM, False):
         os.environ.pop("CANBUSD", None)
@@ -140,8 +140,8 @@ def pytest_unconfigure(config: pytest.Config) -> None:
 
 @pytest.hookimpl(hookwrapper=True)  # type: ignore[misc]
 def pytest_runtest_protocol(item: pytest.Item) -> Generator[None, Any, None]:
-    """Notes that the test was interrupted, for example by Ctrl-C. Such a test has no report, and its fixtures end with
-    the session."""
+    """Notes that the test was interrupted, for example by Ctrl-C. Such a test has no report, and its fixtures are torn
+    down at the end of the session."""
     outcome = yield
     if outcome.excinfo is not None:
         item.stash[FAILED] = True
@@ -149,8 +149,8 @@ def pytest_runtest_protocol(item: pytest.Item) -> Generator[None, Any, None]:
 
 @pytest.hookimpl(hookwrapper=True, tryfirst=True)  # type: ignore[misc]
 def pytest_runtest_makereport(item: pytest.Item) -> Generator[None, Any, None]:
-    """Notes whether the test failed, because its fixtures check this when they end. A test that fails as its xfail mark
-    expects does not count as failed."""
+    """Notes whether the test failed, because the teardown of its fixtures depends on this. An expected failure (xfail)
+    does not count as failed."""
     outcome = yield
     report = outcome.get_result()
     if report.when == "teardown":
@@ -165,8 +165,8 @@ def pytest_runtest_makereport(item: pytest.Item) -> Generator[None, Any, None]:
 
 @pytest.hookimpl(tryfirst=True)  # type: ignore[misc]
 def pytest_runtest_setup(item: pytest.Item) -> None:
-    """Fails a test for virtual time that does not run in virtual time, whatever its fixtures are. Frames that a shared
-    server received before the test are ignored by this test's expectations."""
+    """Fails a test that requires virtual time but does not run in it, whatever fixtures it uses. The expectations of
+    the test ignore frames that a shared server received earlier."""
     marker = item.get_closest_marker("canbusd")
     if marker is not None and marker.kwargs.get("virtual") and not is_virtual():
         pytest.fail("this test is for virtual time: python3 -m pytest --canbusd-virtual", pytrace=False)
@@ -174,7 +174,7 @@ def pytest_runtest_setup(item: pytest.Item) -> None:
     if is_virtual():
         begin_test(item.nodeid)
     for run in list(RUNNING):
-        # If a server has crashed, the tests that use the server report this.
+        # If a server has crashed, the tests that use it will report this.
         with contextlib.suppress(Exception):
             if isinstance(run, Expectations) and os.getpid() == run._process:
                 run.expect_from_now()
@@ -182,7 +182,8 @@ def pytest_runtest_setup(item: pytest.Item) -> None:
 
 @pytest.hookimpl(trylast=True)  # type: ignore[misc]
 def pytest_runtest_call(item: pytest.Item) -> None:
-    """Notes that the test function was called. A skipped test uses no fixture, so its marker needs no warning."""
+    """Notes that the test function was called. The function of a skipped test is not called, so there is no warning
+    about its marker."""
     item.stash[CALLED] = True
 
 
@@ -200,13 +201,13 @@ def pytest_runtest_teardown(item: pytest.Item) -> None:
 
 
 def marker_words(marker: pytest.Mark) -> str:
-    """Returns a marker as it is written in the source of a test."""
+    """Returns a marker as it is written in the source code of a test."""
     words = [*map(repr, marker.args), *(f"{name}={value!r}" for name, value in marker.kwargs.items())]
     return f"@pytest.mark.canbusd({', '.join(words)})"
 
 
 def new_folder(place: Path, name: str) -> Path:
-    """Makes a folder with a number at the end of its name, like pytest's folders, but without a link to the last
+    """Creates a folder whose name ends with a number, as pytest does, but without a symbolic link to the current
     folder."""
     for number in itertools.count():
         with contextlib.suppress(FileExistsError):
@@ -217,13 +218,13 @@ def new_folder(place: Path, name: str) -> Path:
 
 
 class UnusedRule(pytest.PytestWarning):
-    """A fault rule, such as `next 1 id 7FE lastbit`, was never applied during a test: the intended fault never
+    """A fault rule, such as `next 1 id 7FE lastbit`, was never applied during a test, so the intended fault never
     happened."""
 
 
 class UnusedMarker(pytest.PytestWarning):
-    """A test has the marker `canbusd`, but uses neither of the fixtures `canbusd` and `canbusd_bench`. So the marker
-    has no effect."""
+    """A test has the marker `canbusd`, but does not use the fixtures `canbusd` and `canbusd_bench`. So the marker has
+    no effect."""
 
 
 class StartsServer(Protocol):
@@ -234,22 +235,21 @@ class StartsServer(Protocol):
 
 
 class Runs:
-    """The servers and benches of a test, and the folder with their logs and records."""
+    """The servers and benches of a test, and the folder for their logs and records."""
 
     def __init__(self, request: pytest.FixtureRequest, factory: pytest.TempPathFactory) -> None:
         self._item: pytest.Item = request.node
         self._keep = str(request.config.getoption("--canbusd-keep"))
-        # A run of a sweep needs only its result, and no page. So benches write no files, and their records are not
-        # audited.
+        # A run of a sweep only has to pass or fail. Benches write no files, and their records are not audited.
         self._is_bare = self._keep == "none" and placement.has_faults()
         name = re.sub(r"\W+", "-", self._item.name)[:40]
         self._folder = new_folder(factory.getbasetemp(), f"canbusd-{name}")
         self._runs: list[Union["Server", Bench]] = []
-        #: For the path of each complete record: the run, and the names of its interfaces.
+        #: The run and the names of its interfaces, by the path of each complete record.
         self._records: dict[Path, tuple[Union["Server", Bench], list[str]]] = {}
 
     def server(self, *buses: str, **options: Any) -> "Server":
-        """Starts a server whose logs and records are in a folder of the test."""
+        """Starts a server that writes its logs and records to the folder of the test."""
         from canbusd.server import Server
 
         out = self._folder_of(options)
@@ -259,7 +259,7 @@ class Runs:
         return server
 
     def bench(self, names: str, **options: Any) -> Bench:
-        """Starts a bench whose log and record are in a folder of the test."""
+        """Starts a bench that writes its log and record to the folder of the test."""
         out = self._folder_of(options, is_used=not self._is_bare)
         with self._below():
             bench = Bench(names, **options)
@@ -268,7 +268,7 @@ class Runs:
 
     @contextlib.contextmanager
     def _below(self) -> Iterator[None]:
-        """Makes the runs create their folders in the folder of the test, where pytest removes them if the process is
+        """Makes runs create their folders in the folder of the test. Pytest removes them there if the process is
         killed."""
         before = FOLDERS.set(self._folder)
         try:
@@ -291,8 +291,7 @@ class Runs:
             self._records[out / f"{names[0]}.rec"] = run, names
 
     def audit(self, text: bytes, name: str) -> None:
-        """Audits the record of a bus inside the process. If the record is wrong, it stays in the folder and the test
-        fails."""
+        """Audits the record of a LocalBus. If the record is wrong, its file stays in the folder and the test fails."""
         path = self._folder / f"{name}.rec"
         path.write_bytes(text)
         said = audited(path)
@@ -301,12 +300,12 @@ class Runs:
         path.unlink()
 
     def end(self) -> None:
-        """Ends the runs and audits their records; a fault of a run fails the test. Warns about rules that were never
+        """Ends the runs and audits their records. An error in a run fails the test. Warns about rules that were never
         applied."""
         faults = [*self._stop(), *self._audit()]
         unused = [] if faults else [*self._unused()]
         failed = bool(faults) or self._item.stash.get(FAILED, False)
-        # During a sweep, this is done only if the page of the run was requested.
+        # During a sweep, pages are written only if the page of the run was requested.
         if (failed or self._keep == "all") and not (placement.is_there() and self._keep == "none"):
             self._report()
         if self._keep == "none" or (self._keep == "failed" and not failed):
@@ -319,11 +318,11 @@ class Runs:
             self._item.warn(UnusedRule(f"rule not used up: {rule}"))
 
     def _stop(self) -> Iterator[str]:
-        """Ends the runs that have not ended yet, and yields their faults."""
+        """Ends the runs that are still running, and yields their errors."""
         for run in self._runs:
             if self._was_killed(run):
-                # The test itself killed the server, so this is no fault. The files contain only the data written while
-                # the server ran.
+                # The test itself killed the server, so this is not an error. The files contain only the data written
+                # while the server ran.
                 for program in programs_of(run):
                     program.stop()
                 continue
@@ -340,7 +339,7 @@ class Runs:
         return not isinstance(run, Bench) and run._result is not None and run._result.status < 0
 
     def _audit(self) -> Iterator[str]:
-        """Audits the records, and yields their faults. The record of a killed server may end at any point."""
+        """Audits the records, and yields the errors in them. The record of a killed server may be incomplete."""
         for path, (run, _) in self._records.items():
             if self._is_bare and isinstance(run, Bench):
                 continue
@@ -353,7 +352,7 @@ class Runs:
                 yield f"no record at {path}"
 
     def _unused(self) -> Iterator[Rule]:
-        """Yields the rules that were never applied, if a record shows this."""
+        """Yields the rules that were never applied, according to the records."""
         for path, (run, names) in self._records.items():
             if isinstance(run, Bench):
                 given = placement.rules_of((run._number, names[0]))
@@ -365,7 +364,8 @@ class Runs:
                 yield from (rule for rule in unused_rules(names, faults) if str(rule) not in given)
 
     def _report(self) -> None:
-        """Adds the facts about each bus and program to the test's report, and to the test's properties in a JUnit file."""
+        """Adds a description of each bus and program to the test's report, and to the test's properties in a JUnit
+        file."""
         facts = [self._facts(path, run, names) for path, (run, names) in self._records.items()]
         facts += [{"program": program.shown().splitlines()} for run in self._runs for program in programs_of(run)]
         sections = []
@@ -384,13 +384,13 @@ class Runs:
         self._item.add_report_section("teardown", "canbusd", text)
 
     def _from_junit(self, page: str) -> str:
-        """Returns the path of a page relative to the folder of the JUnit file, so that the two can be copied together."""
+        """Returns the path of a page relative to the folder of the JUnit file, so that both can be copied together."""
         file = self._item.config.getoption("xmlpath", None)
         return os.path.relpath(page, os.path.dirname(os.path.abspath(file)) if file else None)
 
     def _facts(self, path: Path, run: Union["Server", Bench], names: list[str]) -> dict[str, list[str]]:
-        """Makes the page of a bus. Returns the bus's story, the end of its log, its states and counts, and the path of
-        the page."""
+        """Writes the page of a bus. Returns a description of what happened on the bus, the end of its log, its states
+        and counts, and the path of the page."""
         log, left = path.with_suffix(".log"), left_by(path, record_when(run))
         facts: dict[str, list[str]] = {"story": [], "log": summary.end_of_log(log) if log.exists() else []}
         if not left.exists():
@@ -410,12 +410,12 @@ class Runs:
 
 
 def programs_of(run: Union["Server", Bench]) -> Sequence["Program"]:
-    """Returns the programs that the test started on the buses of a server; an empty list for a bench."""
+    """Returns the programs that the test has started on the buses of a server; an empty list for a bench."""
     return [] if isinstance(run, Bench) else run._programs
 
 
 def record_when(run: Union["Server", Bench]) -> str:
-    """Returns when the record of a run is written: at the run's `end`, `live`, or `none` if it is not written."""
+    """Returns when the record of a run is written: `end`, `live` (during the run), or `none` if it is not written."""
     return "end" if isinstance(run, Bench) else run._record_when
 
 
@@ -427,7 +427,7 @@ def _canbusd_runs(request: pytest.FixtureRequest, tmp_path_factory: pytest.TempP
 
 
 def marked(request: pytest.FixtureRequest, kind: Callable[..., object]) -> tuple[tuple[str, ...], dict[str, Any]]:
-    """Returns the buses and the options in the test's marker that apply to a server, a bench or a local bus."""
+    """Returns the buses and the options in the test's marker that are valid for a server, a bench or a local bus."""
     request.node.stash[USED] = True
     marker = request.node.get_closest_marker("canbusd")
     if marker is None:
@@ -461,14 +461,15 @@ def refused(request: pytest.FixtureRequest, fault: str) -> BaseException:
 
 @pytest.fixture
 def canbusd_server(_canbusd_runs: Runs) -> StartsServer:
-    """Starts servers: `canbusd_server("can0,can1", faults=..)`. After the test, the servers end and their records are
-    audited."""
+    """Starts servers: `canbusd_server("can0,can1", faults=..)`. After the test, the servers are stopped and their
+    records are audited."""
     return _canbusd_runs.server
 
 
 @pytest.fixture
 def canbusd(request: pytest.FixtureRequest, _canbusd_runs: Runs) -> "Server":
-    """A server for the test. Its buses are those of the marker `canbusd`; by default can0 and can1 on one bus."""
+    """A server for the test. Its buses are given by the marker `canbusd`; by default, it has one bus with can0 and
+    can1."""
     from canbusd.server import Server
 
     buses, options = marked(request, Server)
@@ -478,7 +479,7 @@ def canbusd(request: pytest.FixtureRequest, _canbusd_runs: Runs) -> "Server":
 
 @pytest.fixture
 def canbusd_bench(request: pytest.FixtureRequest, _canbusd_runs: Runs) -> Bench:
-    """A bench for the test. Its bus is that of the marker `canbusd`; by default can0 and can1."""
+    """A bench for the test. Its interfaces are given by the marker `canbusd`; by default can0 and can1."""
     buses, options = marked(request, Bench)
     if len(buses) != 1:
         raise refused(request, f"canbusd_bench has one bus, not {len(buses)}")
@@ -488,7 +489,7 @@ def canbusd_bench(request: pytest.FixtureRequest, _canbusd_runs: Runs) -> Bench:
 
 @pytest.fixture
 def canbusd_local(request: pytest.FixtureRequest, _canbusd_runs: Runs) -> Iterator["LocalBus"]:
-    """A bus inside the process. Its interfaces are those of the marker `canbusd`; by default can0 and can1. After the
+    """A LocalBus for the test. Its interfaces are given by the marker `canbusd`; by default can0 and can1. After the
     test, its record is audited."""
     from canbusd.local import LocalBus
 

@@ -1,9 +1,9 @@
-"""Reads the records of runs, their attempts and their items. docs/RECORD.md describes the text of a record.
+"""Reads the records of runs, their attempts and their items. docs/RECORD.md describes the format of a record.
 
     record = read_record("can0.rec")
     assert [attempt.outcome for attempt in record.attempts] == ["destroyed", "done"]
 
-The program reports the effects of each entry of a record, and refuses a record with an error.
+The program reports the effects of each entry of a record, and rejects a record that contains an error.
 """
 
 import contextlib
@@ -29,7 +29,7 @@ __all__ = ["Attempt", "BadRecord", "Item", "Record", "audit", "fault_named", "pa
 Path = Union[str, "os.PathLike[str]"]
 Outcome = Literal["done", "lastbit", "destroyed", "noack", "idle"]
 Fate = Literal["taken", "waiting", "unread", "dropped"]
-# The pattern of a record's first line, and how many bytes of a file are checked for that line.
+# The pattern of a record's first line, and how many bytes of a file are read to check that line.
 BEGINNING, LINE = re.compile(b"canbus record [1-6]\n"), 256
 
 
@@ -39,17 +39,17 @@ class Attempt:
 
     #: The time of the attempt in seconds.
     timestamp: float
-    #: The interface that won arbitration; the empty string if no frame was queued and the attempt only restarted
+    #: The interface that won arbitration; the empty string if no frame was queued, so that the attempt only restarted
     #: interfaces.
     winner: str
-    #: The number of the frame at the winning interface, from 0.
+    #: The number of the frame at the interface that won arbitration, starting at 0.
     number: int
-    #: The frame in candump's spelling, such as `123#1122`.
+    #: The frame in candump's format, such as `123#1122`.
     frame: str
-    #: `done` if the frame was sent; `lastbit`, `destroyed` or `noack` if it will be sent again; `idle` without a
-    #: winner.
+    #: `done` if the frame was sent; `lastbit`, `destroyed` or `noack` if it will be sent again; `idle` if there was no
+    #: frame.
     outcome: Outcome
-    #: The fault of the attempt, spelled as in a fault script: `good`, `global bit`, `local crc can1`.
+    #: The fault of the attempt, written as in a fault script: `good`, `global bit`, `local crc can1`.
     fault: str
     #: The interfaces that accepted the frame.
     accepted: tuple[str, ...]
@@ -61,15 +61,15 @@ class Attempt:
 
 @dataclass(frozen=True)
 class Item:
-    """A frame or an error message frame that was delivered to a socket or dropped, and what happened to it."""
+    """A frame or an error message frame for a socket, and whether it was delivered, read or dropped."""
 
     interface: str
-    #: The number of the socket, from 0 in the order in which sockets were opened.
+    #: The number of the socket. Sockets are numbered from 0 in the order in which they were opened.
     socket: int
-    #: The interface that sent the frame. For an error message frame, or without a frame, the interface that generated
-    #: the item.
+    #: The interface that sent the frame. For an error message frame or an unknown frame, the interface that caused the
+    #: item.
     sender: str
-    #: The frame; None for a dropped item that may have been either the frame or an error message frame.
+    #: The frame; None for a dropped item if it is not known whether it was a frame or an error message frame.
     frame: Optional[Frame]
     #: `taken` if a program read the item, `waiting` if it was unread at the end of the run, `unread` if it was unread
     #: when the socket was closed, and `dropped` if the receive queue was full.
@@ -78,24 +78,24 @@ class Item:
 
 @dataclass(frozen=True)
 class Record(Bus):
-    """The record of a run: the configuration of its bus, the lines of its entries, and the names of its interfaces."""
+    """The record of a run: the configuration of its bus, its entries, and the names of its interfaces."""
 
-    #: The text of the record, up to the last newline.
+    #: The content of the record file, up to the last newline.
     text: bytes = field(repr=False)
     #: Whether the record ends before its last line, `end`.
     is_cut: bool
     names: tuple[str, ...]
-    #: The events of the run that the record describes.
+    #: The events of the run, decoded from the record.
     replay: Replay = field(repr=False, compare=False)
 
     @functools.cached_property
     def lines(self) -> list[str]:
-        """The lines of the entries."""
+        """The lines of the record's entries."""
         return self.text.decode().split("\n")[2 : 2 + self.replay.entries]
 
     @property
     def attempts(self) -> list[Attempt]:
-        """The attempts of the run. Attempts without a frame are included only if they restarted an interface."""
+        """The attempts of the run. An attempt without a frame is included only if it restarted an interface."""
         return attempts_of(self.replay, self.names)
 
     @property
@@ -114,7 +114,7 @@ class Record(Bus):
 
 
 def attempts_of(run: Replay, names: Sequence[str], first: int = 0) -> list[Attempt]:
-    """Returns the attempts of a run from step `first` on, which must be the first step of an entry."""
+    """Returns the attempts of a run, beginning with step `first`, which must be the first step of an entry."""
     steps = run.steps
     restarts: dict[int, list[int]] = {}
     for place in steps.places_of(RESTART, first):
@@ -135,7 +135,8 @@ def attempts_of(run: Replay, names: Sequence[str], first: int = 0) -> list[Attem
 
 
 def attempt_at(run: Replay, names: Sequence[str], place: int, restarted: Sequence[int] = ()) -> Attempt:
-    """Returns the attempt at this step of a run. `restarted` are the interfaces that were restarted after it."""
+    """Returns the attempt at this step of a run. `restarted` are the interfaces that were restarted automatically after
+    it."""
     steps = run.steps
     return Attempt(
         float(moment_of(steps.moments[place])),
@@ -151,7 +152,7 @@ def attempt_at(run: Replay, names: Sequence[str], place: int, restarted: Sequenc
 
 
 def named(numbers: Sequence[int], names: Sequence[str]) -> tuple[str, ...]:
-    """Returns the names of these interfaces."""
+    """Returns the names of the interfaces with these indexes."""
     return tuple(names[number] for number in numbers)
 
 
@@ -160,11 +161,11 @@ def read_record(
 ) -> Record:
     """Returns the record in this file.
 
-    `names` are the names of the interfaces, as a list or as a string like `can0,can1`. Without it, the log next to the
-    record (can0.log for can0.rec) names the interfaces that won an attempt; the other interfaces are called `interface
-    0` and so on. With `cut`, a record may end before its last line, like the record of a killed run. Then only entries
-    with complete lines count, and `is_cut` says whether the record is incomplete. With the bit rates of the bus, the
-    steps have their time on the wire.
+    `names` are the names of the interfaces, as a list or as a string like `can0,can1`. By default, they are read from
+    the log next to the record (can0.log for can0.rec). The log contains only interfaces that won an attempt; the other
+    interfaces are called `interface 0` and so on. With `cut`, the record may be incomplete, like the record of a killed
+    run. Then only complete entries are read, and `is_cut` says whether the record is incomplete. If the bit rates of
+    the bus are given, the steps include their time on the wire.
     """
     check_no_log(path)
     with open(path, "rb") as file:
@@ -173,8 +174,8 @@ def read_record(
 
 
 def check_no_log(path: Path) -> None:
-    """Raises BadRecord if the file is a log; the error names the record next to it. A path that is no file is left to
-    the program to report."""
+    """Raises BadRecord if the file is a log; the error names the record next to it. If the path is not a file, the
+    program reports the error later."""
     if os.path.isfile(os.fspath(path)):
         with open(path, "rb") as file:
             is_log = file.read(1) == b"("
@@ -191,13 +192,14 @@ def parse_record(
     cut: bool = False,
     rates: Optional[Rates] = None,
 ) -> Record:
-    """Returns the record in these bytes, like read_record. A log with interface names may be next to the file `path`."""
+    """Returns the record in these bytes, like read_record. A log with the names of the interfaces may be next to
+    `path`."""
     with Events(cut, rates) as events:
         return record_of(events.texts(data), data[: data.rfind(b"\n") + 1], path, names, rates)
 
 
 def read_run(path: Path, names: Optional[Sequence[str]], cut: bool, rates: Optional[Rates]) -> Record:
-    """Returns the record in this file, like read_record, but without the text of the record, which may be large."""
+    """Returns the record in this file, like read_record, but does not keep the content of the file, which may be large."""
     check_no_log(path)
     with open(path, "rb") as file:
         check_beginning(file)
@@ -206,8 +208,8 @@ def read_run(path: Path, names: Optional[Sequence[str]], cut: bool, rates: Optio
 
 
 def check_beginning(file: BinaryIO) -> None:
-    """Raises BadRecord if a file does not begin like a record. Otherwise the program would read the whole file before
-    it reports this."""
+    """Raises BadRecord if a file does not begin like a record. Without this check, the program would read the whole
+    file before it reports the error."""
     try:
         text = os.pread(file.fileno(), LINE, 0)
     except OSError:
@@ -226,7 +228,7 @@ def record_of(
     rates: Optional[Rates],
     take: Callable[[Replay, Iterable[str]], object] = Replay.take_texts,
 ) -> Record:
-    """Returns the record with these events and this text. Each string of `events` has one or more lines of events."""
+    """Returns the record with these events and this text. Each string in `events` consists of one or more lines."""
     run = Replay(rates)
     run.text = text
     take(run, events)
@@ -235,13 +237,13 @@ def record_of(
 
 
 def timed(run: Replay, rates: Rates) -> Replay:
-    """Returns the same run with the time on the wire at these bit rates. Reads the record again if the bit rates
-    differ."""
+    """Returns the same run, with the time on the wire at these bit rates. Reads the record again if the run has other
+    bit rates."""
     return run if run.rates == rates else parse_record(run.text, cut=not run.is_whole, rates=rates).replay
 
 
 def names_of(run: Replay, path: Optional[Path], given: Optional[Sequence[str]]) -> tuple[str, ...]:
-    """Returns the names of the interfaces: the given names, else the names in the log next to the record, else numbers."""
+    """Returns the names of the interfaces: the given names, or the names in the log next to the record, or numbers."""
     if given is not None:
         names = given.split(",") if isinstance(given, str) else given
         if len(names) != len(run.ifaces):
@@ -257,12 +259,12 @@ def names_of(run: Replay, path: Optional[Path], given: Optional[Sequence[str]]) 
 
 
 def number_named(number: int) -> str:
-    """Returns the name that is shown for an interface without a name."""
+    """Returns the name for an interface whose name is not known."""
     return f"interface {number}"
 
 
 def is_named(name: str) -> bool:
-    """Returns whether this is the name of an interface, and not only its number."""
+    """Returns whether this is the real name of an interface, not a name from `number_named`."""
     return NAME.fullmatch(name) is not None
 
 
@@ -273,16 +275,17 @@ def members_of(verdict: str, names: Sequence[str]) -> list[str]:
 
 
 def fault_named(verdict: str, names: Sequence[str]) -> str:
-    """Returns a verdict of a record as it is spelled in a fault script: `local crc can1` for `local-crc:0002`."""
+    """Returns a verdict of a record as it is written in a fault script: `local crc can1` for `local-crc:0002`."""
     kind, colon, _ = verdict.partition(":")
     return " ".join([*kind.split("-"), *([",".join(members_of(verdict, names))] if colon else [])])
 
 
 def audit(data: bytes, cut: bool = False) -> str:
-    """Returns the result of `canbusd audit` for these bytes; with `cut`, the result of `canbusd audit --cut`.
+    """Returns the result of `canbusd audit` for the bytes of a record. With `cut`, returns the result of `canbusd audit
+    --cut`.
 
-    The result is `ok 7 entries`, with `, then cut off` if the record is incomplete. Otherwise it is `canbusd: ` and the
-    fault: `entry 3: wrong`, `line 5: bad line`, `bad version` or `read fault`.
+    The result is `ok 7 entries`, with `, then cut off` if the record is incomplete. Otherwise it is `canbusd: `
+    followed by the error: `entry 3: wrong`, `line 5: bad line`, `bad version` or `read fault`.
     """
     try:
         return verdict_of(parse_record(data, cut=cut))

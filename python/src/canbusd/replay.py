@@ -1,8 +1,8 @@
-"""A run with its steps, items, interfaces and sockets, built from lines of events.
+"""A run with its steps, items, interfaces and sockets, built from the program's event lines.
 
-The program implements the rules of the bus, and reports the effects of each entry of a record in these lines. This
-module stores the effects and their consequences: the queued frames, the interfaces that take part in arbitration, and
-what happened to each item. A run may have millions of lines, so `_run/chunks.py` reads them as columns.
+The program implements the rules of the bus, and describes the effects of each entry of a record in these lines. This
+module stores the effects, and derives the queued frames, the interfaces that take part in arbitration, and what
+happened to each item. A run may have millions of lines, so `_run/chunks.py` reads them as columns.
 """
 
 from array import array
@@ -17,33 +17,32 @@ from canbusd._run.run_parts import OFF, Bus, Interface, Socket, bus_of, frame_in
 from canbusd._run.steps import DOWN, Items, Places, Steps
 
 FIRST_LINE = "canbus events 1"
-#: The replies to a send that the interface did not accept.
+#: The replies to a send that the interface refused.
 REFUSED = ("bus-off", "interface-down", "no-buffers")
-#: The text of an item that was dropped, if no line shows its content.
+#: Stands for a dropped item whose content is not known.
 UNKNOWN = "?"
 
 
 class Replay:
-    """A run, up to the last line of events that was processed."""
+    """A run, up to the last event line that was processed."""
 
     def __init__(self, rates: Optional[Rates] = None) -> None:
-        #: The bit rates for which the lines contain the time of attempts on the wire; None if the lines do not contain
-        #: it.
+        #: The bit rates for which the lines contain the time of attempts on the wire; None if the lines contain no
+        #: times.
         self.rates = rates
-        #: The text of the record, if the whole record was read at once.
+        #: The content of the record, if the whole record was read at once.
         self.text = b""
-        #: The configuration of the bus, once its line has been processed.
+        #: The configuration of the bus; None until its line has been processed.
         self.bus: Optional[Bus] = None
         self.ifaces: list[Interface] = []
         self.sockets: list[Socket] = []
-        #: The frames of steps and the error message frames, each with its index. The first index means that there is no
-        #: frame.
+        #: The frames and error message frames, each with its index. The first index stands for no frame.
         self.texts = Places("")
         self.steps, self.items = Steps(self.texts, self.ifaces), Items(self.sockets)
-        #: For each frame that was removed from a transmit queue by bus off or by `down`: the step, the number and the
-        #: frame.
+        #: The frames that were removed from a transmit queue by bus off or by `down`. For each frame: the step, the
+        #: number and the frame.
         self.lost = self.steps.lost
-        #: The last steps before refused sends, for each pair of interface and reply. The reply is one of REFUSED.
+        #: For each pair of interface and reply, the last step before each refused send. The reply is one of REFUSED.
         self.refused: dict[tuple[int, str], list[int]] = {}
         #: The verdicts of attempts without a frame that restarted interfaces, by the number of the entry.
         self.idle_verdicts: dict[int, str] = {}
@@ -52,40 +51,41 @@ class Replay:
         self.entries = 0
         #: Whether the last line of the run has been processed.
         self.is_whole = False
-        # The reader of the lines of entries, once the configuration of the bus is known.
+        # The reader for entry lines; None until the configuration of the bus is known.
         self._reader: Optional[Reader] = None
-        # The numbers of queued frames of all interfaces, packed into one integer.
+        # How many frames each interface has queued, packed into one integer.
         self._waiting = 0
         # The interfaces that are down, as a bit mask with bit i for interface i.
         self._down = 0
-        # For a step, the number of attempts without a frame just before the step.
+        # The number of attempts without a frame just before a step, by step.
         self._idle: dict[int, int] = {}
 
     @property
     def attempts(self) -> int:
-        """The number of attempts that had a frame to send."""
+        """How many attempts had a frame to send."""
         return self.steps.tried
 
     @property
     def idle_since(self) -> int:
-        """The number of attempts without a frame since the last step."""
+        """How many attempts without a frame followed the last step."""
         return self._idle.get(len(self.steps), 0)
 
     def socket_ifaces(self) -> list[int]:
-        """Returns the interface of each socket."""
+        """Returns the interface of each socket, by index."""
         return [socket.iface for socket in self.sockets]
 
     def take(self, lines: Iterable[str]) -> None:
-        """Processes these lines, which must follow the earlier lines."""
+        """Processes these lines, which must follow the lines that were processed before."""
         self.take_text("\n".join(lines))
 
     def take_texts(self, texts: Iterable[str]) -> None:
-        """Processes these texts, each with one or more lines, in order."""
+        """Processes these strings in order. Each string contains one or more lines."""
         for text in texts:
             self.take_text(text)
 
     def take_text(self, text: str) -> None:
-        """Processes complete lines, which must follow the earlier lines. The last line is given without its newline."""
+        """Processes complete lines, which must follow the lines that were processed before. The last line has no
+        newline."""
         while self.bus is None and text:
             front, _, text = text.partition("\n")
             self._begin(front)
@@ -95,7 +95,7 @@ class Replay:
         self.take_chunk(self._reader.read(text, self.socket_ifaces()))
 
     def take_chunk(self, chunk: Chunk) -> None:
-        """Processes the lines of a chunk, which must follow the earlier lines."""
+        """Processes the lines of a chunk, which must follow the lines that were processed before."""
         first = self.entries
         self.entries += chunk.entry_count
         self._take_others(chunk, first)
@@ -119,7 +119,7 @@ class Replay:
         self._waits = Waiting(count)
         self._reader = Reader(self.bus)
 
-    # Methods for rare lines. Their arguments are the line, the number of steps before the line, and the number of its
+    # Methods for rare lines. Their arguments are the line, the number of steps before the line, and the index of its
     # entry.
 
     def _take_others(self, chunk: Chunk, first: int) -> None:
@@ -177,7 +177,7 @@ class Replay:
     # Methods for frequent lines. A run may have millions of them.
 
     def _take_steps(self, chunk: Chunk, first_entry: int) -> None:
-        """Adds the steps of a chunk: attempts that try frames, restarts of interfaces, and interfaces that go down."""
+        """Adds the steps of a chunk: attempts with a frame, restarts of interfaces, and interfaces that go down."""
         first, first_item = len(self.steps), len(self.items)
         for step in chunk.breaks:
             self._set_down(chunk, step)
@@ -200,7 +200,7 @@ class Replay:
         self._idle = {len(self.steps): self.idle_since}
 
     def _set_down(self, chunk: Chunk, step: int) -> None:
-        """Records that an interface is down from this step on, or is up again."""
+        """Records whether an interface is down, beginning with this step."""
         bit = 1 << chunk.ifaces[step]
         down = self._down | bit if chunk.kinds[step] == DOWN else self._down & ~bit
         if down != self._down:
@@ -208,8 +208,8 @@ class Replay:
             self.steps.set_down(len(self.steps) + step, down)
 
     def _hits(self, chunk: Chunk, first: int) -> Iterable[tuple[int, int]]:
-        """Yields each step with a local fault, and the interfaces that see the fault. An interface that is bus off or
-        down sees none."""
+        """Yields each step with a local fault, and the interfaces that see the fault. Interfaces that are bus off or
+        down do not see it."""
         for step, members in chunk.local:
             place, sender = first + step, chunk.ifaces[step]
             on = sum(1 << i for i, tec in enumerate(self.steps.counts_before(place)[::2]) if tec < OFF and i != sender)
@@ -218,7 +218,7 @@ class Replay:
     def _lose(self, chunk: Chunk, loss: Loss, first: int) -> None:
         """Records that an interface goes down or bus off, and loses all frames in its transmit queue.
 
-        At bus off, the first lost frame is the frame of the step.
+        At bus off, the first lost frame is the frame that was sent in the step.
         """
         iface = self.ifaces[chunk.ifaces[loss.step]]
         number = chunk.numbers[loss.step] if loss.gone is None else iface.gone + loss.gone
@@ -228,8 +228,8 @@ class Replay:
         iface.lost += loss.frames
 
     def _drop(self, chunk: Chunk, first: int, first_item: int) -> list[Drop]:
-        """Records the items that sockets dropped because of full queues. Returns the drops that may include error
-        message frames."""
+        """Records the items that sockets dropped because their queues were full. Returns the drops that may include
+        error message frames."""
         found: list[Drop] = []
         for drop in chunk.dropped:
             socket = self.sockets[drop.socket]
@@ -240,10 +240,10 @@ class Replay:
         return found
 
     def _place_texts(self, chunk: Chunk, first_item: int, unknown: Sequence[Drop]) -> None:
-        """Assigns indexes to the frames and error message frames of a chunk, and to items whose content no line shows."""
+        """Assigns indexes to the frames and error message frames of a chunk, and to dropped items with unknown content."""
         errors, before = self.items.errors, len(chunk.texts)
         if unknown and UNKNOWN not in self.texts:
-            # UNKNOWN gets an index after the texts of all steps and items that come before the first unknown item.
+            # UNKNOWN gets the index that follows those of all steps and items before the first unknown item.
             drop = unknown[0]
             told = (text for item, text in zip(chunk.errors, chunk.error_texts) if item < drop.item)
             before = max([*chunk.frames[: drop.step + 1], *told]) + 1

@@ -30,35 +30,35 @@ from canbusd.signals import Database, frame_of
 
 Self = TypeVar("Self", bound="RestBus")
 
-# The order of calls that are due at the same time: values are set before frames are sent.
+# The order of calls that are due at the same time: signal values are set before frames are sent.
 VALUES, FRAMES = -1, 0
 
 
 class Counts(NamedTuple):
-    """The numbers of frames of one or more messages, by outcome."""
+    """How many frames of one or more messages were accepted, refused and skipped."""
 
     #: Frames that the server or bench accepted into a transmit queue.
     accepted: int = 0
-    #: Frames that the server or bench refused, because the queue was full, or the interface was bus off or down.
+    #: Frames that the server or bench refused because the queue was full, or the interface was bus off or down.
     refused: int = 0
     #: Frames that were skipped because this process was at least one cycle late.
     skipped: int = 0
 
     def plus(self, other: "Counts") -> "Counts":
-        """Returns the sum of both counts for each outcome."""
+        """Returns the sums of these counts and other counts."""
         return Counts(*(one + its for one, its in zip(self, other)))
 
 
 class Outgoing:
-    """A message that is about to be sent. It is passed to the function given to `on_send`; changes apply only to this
-    frame."""
+    """A message that is about to be sent. It is passed to the function that was set with `on_send`. Changes apply only
+    to the next frame."""
 
     def __init__(self, message: MessageFormat, values: Mapping[str, Value], count: int) -> None:
         self._message, self._values = message, dict(values)
         self._data: Optional[bytes] = None
         #: The name of the message.
         self.name = message.name
-        #: The number of frames of this message that were sent before, without refused frames.
+        #: How many frames of this message were sent before, without refused frames.
         self.count = count
 
     def __getitem__(self, signal: str) -> Value:
@@ -71,7 +71,7 @@ class Outgoing:
 
     @property
     def data(self) -> bytes:
-        """The current bytes of the message. Setting them overrides all signals, until a signal is set again."""
+        """The current bytes of the message. If they are set, they override all signals until a signal is set again."""
         return self._message.encode(self._values, is_strict=False) if self._data is None else self._data
 
     @data.setter
@@ -80,8 +80,8 @@ class Outgoing:
 
 
 def checked_row(row: object) -> tuple[int, Value]:
-    """Returns a table row as a time in microseconds and a value. Raises ValueError if the row is not a pair of seconds
-    and a value."""
+    """Returns a row of a table as a time in microseconds and a value. Raises ValueError if the row is not a pair of
+    seconds and a value."""
     if not isinstance(row, (tuple, list)) or len(row) != 2 or not isinstance(row[0], Real) or row[0] < 0:
         raise ValueError(f"a table has pairs of seconds and values, such as [(0.0, 800), (1.5, 3000)], not {row!r}")
     return micros(float(row[0])), row[1]
@@ -94,13 +94,13 @@ def checked_rows(table: object) -> list[tuple[int, Value]]:
 
 
 class Playing:
-    """A shape that a signal follows, and the time in microseconds at which it began."""
+    """The shape that a signal follows, and the time in microseconds at which it began."""
 
     def __init__(self, shape: Shape, since: int) -> None:
         self._shape, self._since, self._number = shape, since, -1
 
     def value(self, moment: int) -> Value:
-        """Returns the value for the next frame, which is sent at the time `moment`."""
+        """Returns the value for the next frame, which is sent at time `moment`."""
         self._number += 1
         return self._shape.at((moment - self._since) / MICROS, self._number)
 
@@ -108,7 +108,7 @@ class Playing:
 class RestMessage(NamesWhatThereIs):
     """A message that a rest bus sends."""
 
-    # Without slots, a mistaken assignment such as `message.EngineSpeed = 800` would create an attribute.
+    # Without slots, a mistake such as `message.EngineSpeed = 800` would create a new attribute.
     __slots__ = (
         "_accepted", "_cycle", "_frame", "_function", "_phase", "_protection", "_refused", "_rest", "_run", "_shapes",
         "_skipped", "_tables", "_tick", "_values", "format", "interface", "is_running",
@@ -123,10 +123,10 @@ class RestMessage(NamesWhatThereIs):
         self._function: Optional[Callable[[Outgoing], None]] = None
         self._protection: Optional[Protection] = None
         self._tick: Callable[[int], None] = functools.partial(self._send_due, 0)
-        # A counter that `stop` increments, so that calls that were scheduled before are ignored; and the number of each
+        # `_run` is incremented by `stop`, so that calls scheduled before are ignored. `_tables` has the number of each
         # signal's current table.
         self._run, self._tables = 0, dict[str, int]()
-        # For each signal that follows a shape: the shape, and the time at which it began.
+        # The shapes that signals follow, with the time at which each began, by signal name.
         self._shapes: dict[str, Playing] = {}
         self._accepted = self._refused = self._skipped = 0
         #: The format of the message in the database.
@@ -138,7 +138,7 @@ class RestMessage(NamesWhatThereIs):
 
     @property
     def counts(self) -> Counts:
-        """The numbers of this message's frames, by outcome."""
+        """How many frames of this message were accepted, refused and skipped."""
         return Counts(self._accepted, self._refused, self._skipped)
 
     def __getitem__(self, signal: str) -> Value:
@@ -149,7 +149,8 @@ class RestMessage(NamesWhatThereIs):
 
     @explained("values are a dict, such as {'EngineSpeed': 800}")
     def set(self, values: Mapping[str, Value]) -> None:
-        """Sets signals from the next frame on. If a value is not valid, raises DatabaseError and sets none of them."""
+        """Sets signal values, which apply from the next frame. Raises DatabaseError if a value is invalid; in this
+        case, no signal is set."""
         if not isinstance(values, Mapping):
             raise ValueError(f"values are a dict of signals, such as {{'EngineSpeed': 800}}, not {values!r}")
         with self._rest.changing():
@@ -160,8 +161,9 @@ class RestMessage(NamesWhatThereIs):
                 self._shapes.pop(signal, None)
 
     def play(self, signal: str, table: Union[Shape, Iterable[tuple[float, Value]]]) -> None:
-        """Makes a signal follow a shape of canbusd.shapes or a table, from now on. In a table, each value applies from
-        its time, in seconds from now, until the time of the next value. An earlier shape or table of the signal ends.
+        """Makes a signal follow a shape of canbusd.shapes or a table, starting now. A table contains times in seconds
+        from now and values. Each value applies from its time until the time of the next value. The shape or table that
+        the signal followed before is ended.
         """
         if isinstance(table, Shape):
             self._play_shape(signal, table)
@@ -181,7 +183,7 @@ class RestMessage(NamesWhatThereIs):
         for value in shape.ends:
             self._check(signal, value)
         with self._rest.changing():
-            # The new number ends an earlier table of the signal.
+            # The new number makes the signal's earlier table ineffective.
             self._tables[signal] = self._tables.get(signal, 0) + 1
             self._shapes[signal] = Playing(shape, self._rest.now())
 
@@ -193,24 +195,24 @@ class RestMessage(NamesWhatThereIs):
             self._function = function
 
     def protect(self, profile: Optional[Profile] = None) -> Protection:
-        """Adds the counter and the checksum of a profile of canbusd.e2e to each frame, after the values from `on_send`
-        are set. Without a profile, the attributes in the database define it."""
+        """Adds the counter and the checksum of a canbusd.e2e profile to each frame, after the function set with
+        `on_send` was called. By default, the profile is defined by the attributes of the message in the database."""
         protection = Protection(profile_of(profile, self.format))
         with self._rest.changing():
             self._protection = protection
         return protection
 
     def send(self, values: Optional[Mapping[str, Value]] = None) -> None:
-        """Sets these values, and sends one frame now. The values remain set. If the bus refuses the frame, raises the
-        error."""
+        """Sets these values, and sends one frame immediately. The values remain set. Raises an error if the bus refuses
+        the frame."""
         with self._rest.changing():
             if values:
                 self.set(values)
             self._rest.send_now(self, self._next(self._rest.now()))
 
     def start(self) -> None:
-        """Starts sending the message at its cycle time, beginning after its phase. Does nothing if the message has no
-        cycle time or is already being sent."""
+        """Starts sending the message at its cycle time, with an initial delay of its phase. Does nothing if the message
+        has no cycle time or is already being sent."""
         with self._rest.changing() as schedule:
             if self._cycle and not self.is_running:
                 self.is_running = True
@@ -224,7 +226,8 @@ class RestMessage(NamesWhatThereIs):
             self._run += 1
 
     def count(self, answer: str) -> None:
-        """Counts a frame by the reply: the empty string if the frame was accepted, else the reason of the refusal."""
+        """Counts a frame. `answer` is the empty string if the frame was accepted, otherwise the reason why it was
+        refused."""
         if answer:
             self._refused += 1
         else:
@@ -248,7 +251,7 @@ class RestMessage(NamesWhatThereIs):
         self._rest.collect(self, self._next(due + missed * self._cycle))
 
     def _next(self, moment: int) -> Frame:
-        """Returns the next frame, which is sent at the time `moment`."""
+        """Returns the next frame, which is sent at time `moment`."""
         if self._shapes:
             self._values = {**self._values, **{name: one.value(moment) for name, one in self._shapes.items()}}
             self._frame = frame_of(self.format, self.format.encode(self._values, is_strict=False))
@@ -263,7 +266,7 @@ class RestMessage(NamesWhatThereIs):
 
 
 class RestNode(NamesWhatThereIs):
-    """A node that a rest bus simulates. If several messages have a signal of the same name, write it as
+    """A node that a rest bus simulates. If several messages have a signal with the same name, write the signal as
     `EngineData.Counter`."""
 
     __slots__ = ("messages", "name")
@@ -282,8 +285,8 @@ class RestNode(NamesWhatThereIs):
 
     def play(self, signal: str, table: Union[Shape, Iterable[tuple[float, Value]]]) -> None:
         """Makes a signal follow a shape of canbusd.shapes, such as ``shapes.ramp(800, 3000, seconds=2)``, or a table,
-        from now on. In a table, each value applies from its time, in seconds from now, until the time of the next
-        value."""
+        starting now. A table contains times in seconds from now and values. Each value applies from its time until the
+        time of the next value."""
         message, name = self._find(signal)
         message.play(name, table)
 
@@ -298,7 +301,8 @@ class RestNode(NamesWhatThereIs):
             message.stop()
 
     def _find(self, signal: str) -> tuple[RestMessage, str]:
-        """Returns the node's message that has this signal, and the name of the signal without the message's name."""
+        """Returns the node's message that contains this signal, and the name of the signal without the name of the
+        message."""
         title, _, name = signal.rpartition(".")
         found = [
             message for message in self.messages if title in ("", message.format.name) and has(message.format, name)
@@ -313,7 +317,8 @@ class RestNode(NamesWhatThereIs):
 
 
 class RestBus(NamesWhatThereIs):
-    """The base class of rest buses: nodes and messages by name, signal values, and the schedule of calls."""
+    """The base class of rest buses. It contains the nodes and messages by name, the signal values, and the schedule of
+    calls."""
 
     _INSTEAD = {
         **dict.fromkeys(("set", "get"), "a signal is rest['Engine']['EngineSpeed']"),
@@ -365,30 +370,32 @@ class RestBus(NamesWhatThereIs):
 
     @explained()
     def protect(self, message: str, profile: Optional[Profile] = None) -> Protection:
-        """Adds the counter and the checksum of a profile to each frame of a message: ``rest.protect("EngineData",
-        e2e.Profile1(data_id=0x123))``. Without a profile, the attributes in the database define it. Call `inject` of
-        the result for wrong counters and checksums."""
+        """Adds the counter and the checksum of an end-to-end profile to each frame of a message:
+        ``rest.protect("EngineData", e2e.Profile1(data_id=0x123))``. By default, the profile is defined by the
+        attributes of the message in the database. Call `inject` of the returned Protection to send wrong counters and
+        checksums."""
         return self.message(message).protect(profile)
 
     @explained("values are a dict, such as {'EngineSpeed': 800}")
     def send(self, message: str, values: Optional[Mapping[str, Value]] = None) -> None:
-        """Sets these values, and sends one frame of a message now, as if triggered by an event. The values remain set."""
+        """Sets these values, and sends one frame of a message immediately, as an event would. The values remain set."""
         self.message(message).send(values)
 
     def start(self, name: Optional[str] = None) -> None:
-        """Starts the node with this name, or the message if no node has this name. Without a name, starts all nodes."""
+        """Starts the node with this name, or the message with this name if there is no such node. By default, starts
+        all nodes."""
         for one in self._named(name):
             one.start()
 
     def stop(self, name: Optional[str] = None) -> None:
-        """Stops the node with this name, or the message if no node has this name. Without a name, stops all nodes.
-        Signals keep their values, and `send` still works."""
+        """Stops the node with this name, or the message with this name if there is no such node. By default, stops all
+        nodes. Signals keep their values, and `send` still works."""
         for one in self._named(name):
             one.stop()
 
     def _silence(self, interface: str) -> list[RestMessage]:
-        """Stops the messages that an interface sends. Returns the messages that were being sent at their cycle times;
-        an empty list if the rest bus has ended."""
+        """Stops the messages that an interface sends. Returns those that were being sent at their cycle times, or an
+        empty list if the rest bus has ended."""
         with self._lock:
             ceased = [one for one in self.messages if one.interface == interface and one.is_running]
             if self._is_closed:
@@ -404,16 +411,15 @@ class RestBus(NamesWhatThereIs):
                 one.start()
 
     def counts(self, message: Optional[str] = None) -> Counts:
-        """Returns the numbers of frames by outcome, for one message or for all messages together."""
+        """Returns how many frames were accepted, refused and skipped, for one message or for all messages together."""
         chosen = self.messages if message is None else [self.message(message)]
         return functools.reduce(Counts.plus, (one.counts for one in chosen), Counts())
 
     def replay(self, path: Union[str, "os.PathLike[str]"]) -> float:
-        """Sends the frames of a log whose messages are in the rest bus, with the same time between frames as in the
-        log.
+        """Sends the frames of a log that belong to messages of the rest bus, with the same timing as in the log.
 
         Each frame is sent on the interface of its sender. These messages are no longer sent at their cycle times.
-        Returns the duration in seconds. Raises ValueError if the log has no such frame.
+        Returns the duration in seconds. Raises ValueError if the log contains no frame of these messages.
         """
         from canbusd._run.logs import read_entries
 
@@ -435,7 +441,7 @@ class RestBus(NamesWhatThereIs):
         return max(moment - start for moment, _, _ in rows) / MICROS
 
     def close(self) -> None:
-        """Ends the rest bus, which then sends no more frames."""
+        """Ends the rest bus. It sends no more frames."""
         raise NotImplementedError
 
     def __enter__(self: Self) -> Self:
@@ -448,8 +454,8 @@ class RestBus(NamesWhatThereIs):
         close_at_exit(self.close, kind)
 
     def check(self) -> None:
-        """Raises the error that ended the rest bus, if there was one, such as an exception in a function given to
-        `on_send`."""
+        """Raises the error that ended the rest bus, if there was one, such as an exception from a function that was set
+        with `on_send`."""
 
     # Methods that the messages call.
 
@@ -459,7 +465,7 @@ class RestBus(NamesWhatThereIs):
 
     @contextlib.contextmanager
     def changing(self) -> Iterator[Schedule]:
-        """A context for changes to the sent messages; its value is the schedule. Raises ValueError if the rest bus has
+        """A context manager for changes to what is sent. It yields the schedule. Raises ValueError if the rest bus has
         ended."""
         with self._lock:
             self.check()
@@ -469,23 +475,23 @@ class RestBus(NamesWhatThereIs):
             self._changed()
 
     def send_now(self, message: RestMessage, frame: Frame) -> None:
-        """Sends a frame outside its cycle. If the bus refuses the frame, raises the error."""
+        """Sends a frame outside its cycle. Raises an error if the bus refuses the frame."""
         raise NotImplementedError
 
     def repeat(self, due: int, order: int, call: Callable[[int], None]) -> None:
-        """Schedules the next call of the function that is running now. The scheduling thread is awake, so it needs no
-        wake-up."""
+        """Schedules the next call of the function that is running. The scheduling thread is awake, so it does not have
+        to be woken."""
         self._schedule.add(due, order, call)
 
     def collect(self, message: RestMessage, frame: Frame) -> None:
-        """Collects a frame that is due, so that frames with the same due time are sent together."""
+        """Collects a frame that is due, so that all frames with the same due time are sent together."""
         self._collected.append((message, frame))
 
     def _changed(self) -> None:
-        """Reacts to a change of the schedule: a call may now be due earlier than before."""
+        """Called after a change of the schedule, because a call may now be due earlier than before."""
 
     def _due(self, now: int) -> list[tuple[RestMessage, Frame]]:
-        """Makes the calls that are due, and returns the frames that they collected."""
+        """Makes the calls that are due, and returns the frames that they have collected."""
         for due, call in self._schedule.take(now):
             call(due)
         collected, self._collected = self._collected, []

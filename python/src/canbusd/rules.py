@@ -1,11 +1,11 @@
-"""Fault rules: they select attempts by sender and frame, and give them a fault. This is their spelling in a fault
-script:
+"""Fault rules. A rule selects attempts by sender and frame, and sets their fault. In a fault script, rules are written
+like this:
 
     next 32 from ecu global bit
     next 1 id 123 skip 2 lastbit
     always id 7DF local crc tester
 
-The program applies the rules. This module only defines their spelling.
+The program applies the rules. This module only defines their syntax.
 """
 
 import re
@@ -17,14 +17,14 @@ from canbusd._text import NAME, shown
 from canbusd._words import VERDICTS
 from canbusd.frames import EXTENDED, INVERTED
 
-#: The largest number in a rule.
+#: The largest integer in a rule.
 MOST = 99999999
 SHORT_MASK, LONG_MASK = EXTENDED | 0x7FF, EXTENDED | 0x1FFFFFFF
 NUMBER = re.compile("[0-9]{1,8}")
 WORD = re.compile("[0-9A-Fa-f]{1,8}")
 NAMES = f"{NAME.pattern}(?:,{NAME.pattern})*"
 VERDICT = re.compile("|".join(VERDICTS).replace("NAMES", NAMES))
-# The verdicts that are suggested for an unknown first word.
+# The verdicts that are suggested if the first word of a verdict is unknown.
 MEANT = {
     "bit": "global bit",
     "crc": "local crc NAMES",
@@ -44,15 +44,15 @@ MEANT = {
 class Rule:
     """A rule: which attempts it matches, how many of them it applies to, and their verdict."""
 
-    #: The number of attempts that get the verdict; None for all matching attempts.
+    #: How many attempts get the verdict; None for all matching attempts.
     count: Optional[int]
-    #: The verdict, spelled as in a fault script.
+    #: The verdict, written as in a fault script.
     verdict: str
-    #: The sending interfaces whose attempts the rule matches; empty for any interface.
+    #: The senders whose attempts the rule matches; empty for all senders.
     senders: tuple[str, ...] = ()
-    #: The identifier word and the mask that frames must match, as in a filter; None for any frame.
+    #: The identifier word and the mask of the frames that the rule matches, as in a filter; None for all frames.
     identifier: Optional[tuple[int, int]] = None
-    #: The number of matching attempts that the rule leaves to later rules before it applies.
+    #: How many matching attempts are left to later rules before the rule applies.
     skip: int = 0
 
     def __str__(self) -> str:
@@ -60,7 +60,7 @@ class Rule:
 
     @property
     def head(self) -> str:
-        """The text of the rule without its verdict."""
+        """The rule as a string, without its verdict."""
         parts = ["always" if self.count is None else f"next {self.count}"]
         parts += [f"from {','.join(self.senders)}"] if self.senders else []
         parts += [f"id {identifier_text(*self.identifier)}"] if self.identifier else []
@@ -74,7 +74,7 @@ class Rule:
 
 
 def identifier_text(word: int, mask: int) -> str:
-    """Returns the shortest spelling of a rule's identifier and mask: `123`, `00000123`, or `123:700`."""
+    """Returns the shortest notation for a rule's identifier and mask: `123`, `00000123`, or `123:700`."""
     if mask == SHORT_MASK and word <= 0x7FF:
         return f"{word:03X}"
     if mask == LONG_MASK and EXTENDED <= word <= LONG_MASK:
@@ -88,12 +88,12 @@ def seen_by(verdict: str) -> list[str]:
 
 
 def is_rule(line: str) -> bool:
-    """Returns whether a line of a script is a rule."""
+    """Returns whether a line of a fault script is a rule."""
     return line.partition(" ")[0] in ("next", "always")
 
 
 def parse_rule(text: str) -> Rule:
-    """Returns the rule in this text. If the rule is wrong, raises ValueError that names the wrong word."""
+    """Parses a rule. If the rule is wrong, raises a ValueError that names the wrong word."""
     words = text.split(" ")
     try:
         count = count_of(words)
@@ -120,7 +120,7 @@ def meant_by(words: Sequence[str]) -> str:
 
 
 def taken(words: list[str], word: str) -> bool:
-    """Removes the first word if it equals `word`; returns whether it did."""
+    """Removes the first word if it equals `word`. Returns whether it was removed."""
     if words[:1] != [word]:
         return False
     del words[0]
@@ -137,13 +137,12 @@ def check_order(words: list[str], given: dict[str, bool]) -> None:
 
 
 def next_of(words: list[str]) -> str:
-    """Removes and returns the first word; returns the empty string if no words are left."""
+    """Removes and returns the first word. Returns the empty string if there are no words."""
     return words.pop(0) if words else ""
 
 
 def count_of(words: list[str]) -> Optional[int]:
-    """Removes the first words of a rule, and returns the number of attempts that the rule applies to; None for
-    `always`."""
+    """Removes the first words of a rule, and returns how many attempts the rule applies to; None for `always`."""
     first = next_of(words)
     if first == "always":
         return None
@@ -164,14 +163,14 @@ def senders_of(words: list[str]) -> tuple[str, ...]:
 
 
 def number_of(word: str, after: str) -> int:
-    """Returns a decimal number of a rule as an integer."""
+    """Parses a decimal number in a rule."""
     if not NUMBER.fullmatch(word):
         raise ValueError(f"after {after} is a number of 1 to 8 digits, not {word!r}")
     return int(word)
 
 
 def identifier_of(word: str) -> tuple[int, int]:
-    """Returns the identifier word and the mask for a text such as `123`, `00000123` or `123:700`."""
+    """Parses an identifier such as `123`, `00000123` or `123:700`. Returns the identifier word and the mask."""
     identifier, colon, mask = word.partition(":")
     if not WORD.fullmatch(identifier) or (colon and not WORD.fullmatch(mask)):
         raise ValueError(f"after id are hexadecimal digits, as in 123, 00000123 or 123:700, not {word!r}")
@@ -196,17 +195,17 @@ def check_rules(rules: Iterable[Rule], names: Sequence[str]) -> None:
 
 
 class GivenRules:
-    """The rules that were added to a bus, with their numbers in the program, and which of them still apply."""
+    """The rules that were added to a bus, with the program's number for each rule, and which rules still apply."""
 
     def __init__(self, rules: Iterable[Rule] = ()) -> None:
         self._rules: list[Rule] = []
-        # For each rule that is not used up, by its number: how many more verdicts it gives; None if there is no limit.
+        # How many more attempts each remaining rule applies to, by the number of the rule; None if there is no limit.
         self._left: dict[int, Optional[int]] = {}
         for rule in rules:
             self.add(rule)
 
     def __len__(self) -> int:
-        """The number of rules that still apply."""
+        """How many rules still apply."""
         return len(self._left)
 
     def among(self, first: int) -> int:
@@ -223,13 +222,13 @@ class GivenRules:
         self._left.clear()
 
     def unused(self) -> list[Rule]:
-        """Returns the rules with a number of attempts, `next 1 ..`, that gave no verdict and were not ended by a
-        command."""
+        """Returns the rules for a limited number of attempts, such as `next 1 ..`, that were never applied and were not
+        ended by a command."""
         counted = ((self._rules[number - 1], left) for number, left in self._left.items() if left is not None)
         return [rule for rule, left in counted if rule.count == left]
 
     def gave(self, number: int) -> Rule:
-        """Returns the rule with this number, which gave an attempt its verdict, and counts the verdict."""
+        """Notes that the rule with this number was applied to an attempt, and returns the rule."""
         left = self._left.get(number)
         if left == 1:
             del self._left[number]

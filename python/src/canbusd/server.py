@@ -1,4 +1,4 @@
-"""A server for a test: the test starts, uses and ends the server, which writes logs and records.
+"""A server for a test. The test starts, uses and ends the server, which writes logs and records.
 
     with Server("can0,can1", faults=Faults().last_bit(0)) as server:
         with server.bus("can0") as can0, server.bus("can1") as can1:
@@ -52,19 +52,19 @@ if TYPE_CHECKING:
     from canbusd.bus import CanbusdBus
     from canbusd.rest_bus import RestBus
 
-#: Time limits in seconds for the server to start listening, and to end. Writing long records takes time.
+#: Time limits in seconds for the server to start listening, and to exit. Writing long records takes time.
 START, END = 10.0, 60.0
 ENTRIES = re.compile(r"bus (\S+) entries (\d+)")
-# The pattern of the server's message that the record of a bus is full.
+# Matches the server's message that the record of a bus is full.
 FULL = re.compile(r"bus (\S+): record full")
-#: The calls that end the server. The braces are for the calls that do so only if logs and records are written at the
+#: The calls that end the server. `{}` is replaced by the calls that end it only if logs and records are written at the
 #: end.
 ENDED_BY = "stop(), {}audit(), report() and its with block end it"
 
 
 def full_record(errors: Path, buses: Mapping[str, Sequence[str]], channel: Optional[str]) -> str:
-    """Returns a note if the record of this interface's bus, or of any bus, is full, because no further frame is sent
-    there; else the empty string."""
+    """Returns an error message if the record of a bus is full, so that no further frames are sent on that bus;
+    otherwise the empty string. `channel` is an interface of the bus; None means any bus."""
     said = errors.read_text(errors="replace") if errors.exists() else ""
     full = [name for name in FULL.findall(said) if channel is None or channel in buses[name][:-1]]
     return f"{full[0]}: {RECORD_FULL}{CURES[RECORD_FULL]}" if full else ""
@@ -73,9 +73,10 @@ def full_record(errors: Path, buses: Mapping[str, Sequence[str]], channel: Optio
 class Result(NamedTuple):
     """The result of a server that has ended."""
 
-    #: The exit status of the program: 0, or a negative number if a signal killed it, as after :meth:`Server.kill`.
+    #: The exit status of the program: 0, or a negative number if it was killed by a signal, for example by
+    #: :meth:`Server.kill`.
     status: int
-    #: The number of entries in the record of each bus, by the name of the bus's first interface.
+    #: How many entries the record of each bus has. The key is the name of the bus's first interface.
     entries: dict[str, int]
 
 
@@ -83,25 +84,26 @@ class Server(Expectations, SimulatesNodes, RunsPrograms, HasProgram, Run, NamesW
     """A running `canbusd serve` with these buses. Each bus is given by the names of its interfaces:
     ``Server("can0,can1", "car0")``.
 
-    The options are those of the program. ``faults`` is a script for the only bus (:class:`canbusd.Faults`, a path or a
-    text), or a dict of scripts by the name of a bus's first interface.
+    The options are those of the program. ``faults`` is a fault script for the only bus (a :class:`canbusd.Faults`
+    object, a path or the text of a script), or a dict of scripts by the name of each bus's first interface.
 
-    ``out`` is a folder for logs and records; without it, they are deleted together with the server object. With
+    ``out`` is a folder for logs and records; without it, they are deleted together with the Server object. With
     ``record="live"`` the server writes logs and records while it runs, ``flush`` milliseconds (100) after each call,
-    and :meth:`log`, :meth:`record` and :meth:`attempts` return the data so far. With ``record="none"`` it writes logs
-    in the same way, but no record, so that a run may continue for weeks. Only with the default, ``record="end"``, a
+    and :meth:`log`, :meth:`record` and :meth:`attempts` return the data so far. With ``record="none"`` it writes only
+    logs in this way, and no records, so that a run may continue for weeks. Only with the default, ``record="end"``, a
     ``limit`` may be given (default: 1,000,000 entries).
 
-    With a ``bitrate``, an attempt takes as long as its bits, and ``pace_ms`` is not used. With a ``data_bitrate``, also
+    With a ``bitrate``, an attempt lasts as long as its bits, and ``pace_ms`` is not used. With a ``data_bitrate``, also
     called ``dbitrate``, FD frames with ``bitrate_switch`` use that rate for their data. Each rate is a number for all
-    buses, or a dict of numbers by the name of one interface of each bus; the key None is for all other buses.
+    buses, or a dict of numbers whose keys are the name of one interface of each bus; the key None stands for all other
+    buses.
 
     ``observe`` names the interfaces whose frames :meth:`expect` checks: by default all, or the first of each bus if
-    there are more than 8. With ``observe=()``, the observing sessions add no entries to the record. ``database``, a
-    file or the result of load_database, defines the names of expected messages and signals.
+    there are more than 8. With ``observe=()``, the observing sessions add no entries to the record. ``database`` is a
+    file or the result of load_database, with the names of messages and signals for expectations.
 
-    The server is running when the constructor returns. It is ended by :meth:`stop`, by the end of a ``with`` block, and
-    by the end of this process, even after a crash.
+    The server is running when the constructor returns. It is ended by :meth:`stop`, at the end of a ``with`` block, and
+    when this process exits, even if it crashes.
     """
 
     _INSTEAD = {
@@ -170,7 +172,7 @@ class Server(Expectations, SimulatesNodes, RunsPrograms, HasProgram, Run, NamesW
         placement.note_server(self._names(), self._take_down)
 
     def _take_down(self, names: Sequence[str], moment: float, seconds: float) -> None:
-        """Takes interfaces down at a given time for this many seconds, if the server is still running."""
+        """Takes interfaces down at the time `moment` for `seconds` seconds, if the server is still running."""
         placement.sleep_until(moment)
         try:
             sessions = [RawSession(self.address, name, ["filter 0"], TIMEOUT) for name in names]
@@ -186,14 +188,14 @@ class Server(Expectations, SimulatesNodes, RunsPrograms, HasProgram, Run, NamesW
 
     def _prepare(self, record: str) -> None:
         """Initializes the state of the run before the server starts."""
-        # When the record is written, and the logs and records that are written while the server runs, by bus.
+        # When the record is written; and the logs and records that are written while the server runs, by bus.
         self._record_when = record
         self._logs = {name: LiveLog(self._out / f"{name}.log") for name in self._by_bus}
         self._records = {name: LiveRecord(self._out / f"{name}.rec", bus[:-1]) for name, bus in self._by_bus.items()}
         self._programs: list[Program] = []
         self._rest_buses: "list[RestBus]" = []
         self._nodes: dict[str, Node] = {}
-        # The first interface of each bus for which `end_rules` was called.
+        # The first interface of each bus whose rules were ended with `end_rules`.
         self._rules_ended: set[str] = set()
         self._observer: Optional[Observer] = None
         self._ending = threading.Lock()
@@ -201,7 +203,7 @@ class Server(Expectations, SimulatesNodes, RunsPrograms, HasProgram, Run, NamesW
 
     @property
     def _ends_too(self) -> str:
-        """The calls that also end the server if logs and records are written at the end."""
+        """The calls that end the server only if logs and records are written at the end."""
         return "log(), record(), " if self._record_when == "end" else ""
 
     @property
@@ -227,12 +229,12 @@ class Server(Expectations, SimulatesNodes, RunsPrograms, HasProgram, Run, NamesW
 
     @explained()
     def node(self, name: str, *programs: Program) -> Node:
-        """Returns the node of this interface, which can leave the bus and return. `programs` are the programs of the
+        """Returns the node of this interface, which can be switched off and on. `programs` are the programs of the
         node, started by :meth:`start`: ``server.node("ecu", server.start("./ecu can0"))``.
 
         ``node.power_off()`` kills the programs, and ``power_on()`` starts them again. ``sleep()``, ``wake()`` and
-        ``with node.unplugged():`` do not stop the programs. An interface has one node; later calls may add programs to
-        it.
+        ``with node.unplugged():`` do not stop the programs. Each interface has one node. Later calls return the same
+        node, and may add programs to it.
         """
         self._first(str(name))
         node = self._nodes.setdefault(name, Node(self, name))
@@ -241,11 +243,11 @@ class Server(Expectations, SimulatesNodes, RunsPrograms, HasProgram, Run, NamesW
 
     @explained()
     def inject(self, faults: Script, interface: Optional[str] = None) -> None:
-        """Adds these fault rules to a running bus after its existing rules. They apply from the next attempt on.
+        """Adds these fault rules to a running bus after its existing rules. They apply from the next attempt.
 
-        `faults` are rules of Faults, such as ``Faults().next(32, sender="ecu").destroyed()``, or their text.
-        `interface` is an interface of the bus, and may be omitted if there is only one bus. A bus has at most 64 rules.
-        If there are more, the error names the first rule that does not fit; the rules before it have been added.
+        `faults` are rules of Faults, such as ``Faults().next(32, sender="ecu").destroyed()``, or the text of such
+        rules. `interface` is an interface of the bus, and may be omitted if there is only one bus. A bus has at most 64
+        rules. If there are more, the error names the first rule that does not fit; the rules before it have been added.
         """
         rules = rules_of(faults)
         first = self._first(interface, "interface", "inject(faults, {})")
@@ -254,15 +256,15 @@ class Server(Expectations, SimulatesNodes, RunsPrograms, HasProgram, Run, NamesW
             session._give(rules)
 
     def rules_left(self, interface: Optional[str] = None) -> int:
-        """Returns the number of fault rules of a bus that are not used up. Rules without a limit are included."""
+        """Returns how many fault rules of a bus are not used up. Rules without a limit are included."""
         first = self._first(interface, "interface", "rules_left({})")
         with self._rule_session(first) as session:
             left = session.rules_left()
         return max(0, left - self._planted_left(first)) if left else 0
 
     def _planted_left(self, first: str) -> int:
-        """Returns the number of rules that a sweep of kind `busoff` added and that still apply. Such a rule applies
-        until its sender has lost a frame because of it."""
+        """Returns how many rules that a sweep of kind `busoff` has added still apply. Such a rule applies until its
+        sender has lost a frame because of it."""
         planted = [] if first in self._rules_ended else map(parse_rule, placement.rules_of((self._number, first)))
         senders = [rule.senders[0] for rule in planted if rule.senders and rule.identifier is None]
         return sum(not self._observing().session(sender).stats().lost for sender in senders)
@@ -275,11 +277,11 @@ class Server(Expectations, SimulatesNodes, RunsPrograms, HasProgram, Run, NamesW
         self._rules_ended.add(first)
 
     def stop(self) -> Result:
-        """Ends the programs that the server started, and then the server, which writes logs and records. A second call
-        returns the same result.
+        """Ends the programs that were started by :meth:`start`, and then the server, which writes logs and records. A
+        second call returns the same result.
 
-        :raises ServerError: if the server ended with an error or was killed from outside, or if a program started by
-            :meth:`start` had ended by itself
+        :raises ServerError: if the server ended with an error or was killed by another process, or if a program started
+            by :meth:`start` had exited by itself
         """
         self._check_process()
         with self._ending:
@@ -299,10 +301,10 @@ class Server(Expectations, SimulatesNodes, RunsPrograms, HasProgram, Run, NamesW
         return self._result
 
     def kill(self) -> Result:
-        """Kills the server as in a crash. Logs and records then contain only the data written before."""
+        """Kills the server, as if it had crashed. Logs and records then contain only the data written before."""
         self._check_process()
         if self._result is None:
-            # This signal also kills a server that is just being stopped.
+            # This signal also kills a server that another thread is stopping.
             self._signal()
         with self._ending:
             if self._result is None:
@@ -312,7 +314,7 @@ class Server(Expectations, SimulatesNodes, RunsPrograms, HasProgram, Run, NamesW
             return self._result
 
     def log(self, name: Optional[str] = None) -> list["Message"]:
-        """Returns the frames on the bus of this interface, oldest first, after ending the server.
+        """Ends the server, and returns the frames on the bus of this interface, oldest first.
 
         With ``record="live"`` and ``"none"`` the server continues, and the result contains the frames written so far.
         The channel of each frame is the interface that sent it. A frame that was destroyed or not acknowledged is an
@@ -322,7 +324,7 @@ class Server(Expectations, SimulatesNodes, RunsPrograms, HasProgram, Run, NamesW
         return self._logs[first].messages() if self._record_when != "end" else read_log(self._file(name, "log"))
 
     def record(self, name: Optional[str] = None) -> Record:
-        """Returns the record of the bus of this interface, after ending the server.
+        """Ends the server, and returns the record of the bus of this interface.
 
         With ``record="live"`` the server continues, and the result is the record so far. Its `is_cut` is true until the
         server has ended.
@@ -333,9 +335,9 @@ class Server(Expectations, SimulatesNodes, RunsPrograms, HasProgram, Run, NamesW
         return read_record(self._file(name, "rec"), self._by_bus[first][:-1], rates=self._rates_by_bus[first])
 
     def attempts(self, name: Optional[str] = None) -> list[Attempt]:
-        """Returns the attempts on the bus of this interface; with ``record="live"``, the attempts written so far.
+        """Returns the attempts on the bus of this interface; with ``record="live"``, those that were written so far.
 
-        Each call reads only the new part of the record. Without ``record="live"``, the attempts are available only
+        Each call reads only the new part of the record. Without ``record="live"``, the attempts are only available
         after the server has ended.
         """
         first = self._recorded(name)
@@ -349,7 +351,7 @@ class Server(Expectations, SimulatesNodes, RunsPrograms, HasProgram, Run, NamesW
         """Ends the server, and returns the result of `canbusd audit` for the record of each bus: `ok 7 entries` or an
         error.
 
-        For a killed server with ``record="live"``, the result is `ok 7 entries, then cut off`.
+        If a server with ``record="live"`` was killed, the result is `ok 7 entries, then cut off`.
         """
         return {name: self._audited(self._file(self._recorded(name), "rec")) for name in self._by_bus}
 
@@ -363,7 +365,7 @@ class Server(Expectations, SimulatesNodes, RunsPrograms, HasProgram, Run, NamesW
         return self._page(self.record(name), page)
 
     def _page(self, record: Record, path: Path) -> Path:
-        """Writes the page of a bus to this path; `record` is the record of the bus."""
+        """Writes an HTML page about a bus to this path; `record` is the record of the bus."""
         from canbusd._run.fault_rules_of_run import deciders, faults_beside
         from canbusd._run.summary import write_page
 
@@ -372,7 +374,7 @@ class Server(Expectations, SimulatesNodes, RunsPrograms, HasProgram, Run, NamesW
         return write_page(record, path, rules, self._rates_by_bus[record.names[0]], self.database)
 
     def _check_runs(self, what: str) -> None:
-        """Raises ServerError if the server has ended. `what` is the part of the text that says what is no longer
+        """Raises ServerError if the server has ended. `what` is the part of the message that says what is no longer
         possible."""
         if self._result is not None:
             by = "" if self._result.status < 0 else f"; {ENDED_BY.format(self._ends_too)}"
@@ -384,7 +386,7 @@ class Server(Expectations, SimulatesNodes, RunsPrograms, HasProgram, Run, NamesW
             )
 
     def _rule_session(self, first: str) -> RuleSession:
-        """Opens a session that changes the rules of the bus with this first interface."""
+        """Opens a session that changes the rules of a bus. `first` is the first interface of the bus."""
         self._check_runs("its rules have ended with it")
         try:
             return RuleSession(self.address, first)
@@ -392,11 +394,11 @@ class Server(Expectations, SimulatesNodes, RunsPrograms, HasProgram, Run, NamesW
             raise ServerError(f"no session on {first}: {reason_of(fault)}") from None
 
     def _observing(self) -> Observer:
-        """Returns the observer with the server's own sessions. Raises ServerError if the server has ended."""
+        """Returns the observer, which uses the server's own sessions. Raises ServerError if the server has ended."""
         self._check_runs("nothing can be expected of it")
         if self._observer is None:
-            # The observer gets no reference to the server, because the server's files are deleted when the server
-            # object is.
+            # The observer must not hold a reference to the server, because the server's files are deleted together with
+            # the Server object.
             full = functools.partial(full_record, self._folder / "stderr", self._by_bus)
             self._observer = Observer(self.address, self._names(), self._observed, full)
         return self._observer
@@ -427,8 +429,8 @@ class Server(Expectations, SimulatesNodes, RunsPrograms, HasProgram, Run, NamesW
             self._observer.close()
 
     def _first(self, name: Optional[str], what: str = "name", call: str = "{}") -> str:
-        """Returns the first interface of the bus that has this interface. `what` and `call` are the argument's name and
-        an example call for an error."""
+        """Returns the first interface of the bus that has this interface. The error mentions `what`, the name of the
+        argument, and `call`, an example call."""
         found = [first for first, names in self._by_bus.items() if name in names[:-1] or name is None]
         if name is None and len(found) > 1:
             example = call.format(repr(found[-1]))
@@ -439,8 +441,8 @@ class Server(Expectations, SimulatesNodes, RunsPrograms, HasProgram, Run, NamesW
         return found[0]
 
     def _recorded(self, name: Optional[str]) -> str:
-        """Returns the first interface of the bus that has this interface. Raises ServerError if no record of the bus is
-        written."""
+        """Returns the first interface of the bus that has this interface. Raises ServerError if there is no record of
+        the bus."""
         if self._record_when == "none":
             raise ServerError('there is no record: the server has record="none"')
         return self._first(name)
@@ -454,7 +456,7 @@ class Server(Expectations, SimulatesNodes, RunsPrograms, HasProgram, Run, NamesW
         return self._out / f"{first}.{ending}"
 
     def _listening(self) -> str:
-        """Waits until the server listens, and returns its address."""
+        """Waits until the server is listening, and returns its address."""
         line = self._line(time.monotonic() + START)
         if line.startswith("listening "):
             return line[len("listening ") :].rstrip("\n")
@@ -466,8 +468,8 @@ class Server(Expectations, SimulatesNodes, RunsPrograms, HasProgram, Run, NamesW
         raise ServerError(self.said or f"the server does not listen: {line!r}, status {status}")
 
     def _line(self, deadline: float) -> str:
-        """Returns the first line of the server's output; a shorter text if the server ends or the deadline passes
-        before that."""
+        """Returns the first line of the server's output. The line is incomplete if the server exits or the deadline
+        passes before the end of the line."""
         assert self._child.stdout is not None
         output = self._child.stdout.fileno()
         line = b""
@@ -483,7 +485,7 @@ class Server(Expectations, SimulatesNodes, RunsPrograms, HasProgram, Run, NamesW
         return line.decode()
 
     def _ended(self) -> tuple[int, str]:
-        """Waits until the server has ended. Returns its exit status and its output."""
+        """Waits until the server has exited. Returns its exit status and its output."""
         try:
             written, _ = self._child.communicate(timeout=END)
         except subprocess.TimeoutExpired:

@@ -1,10 +1,11 @@
-"""Shapes: values over time for the signals of a rest bus and for expectations, such as ramps, sines, noise and tables.
+"""Shapes are values over time, such as ramps, sines, noise and tables. They are used for the signals of a rest bus and
+for expectations.
 
     rest["Engine"].play("EngineSpeed", shapes.ramp(800, 3000, seconds=2))
     server.expect_signal("ShownSpeed", shape=shapes.ramp(800, 3000, seconds=2), tolerance=50, within=5)
 
-A shape uses the time of the bus, which starts at 0 with the call. If an end is not given, the shape uses the limit of
-the signal in its database.
+The time of a shape is the time of the bus since the call. If a minimum or a maximum is not given, the shape uses the
+signal's limit in the database.
 """
 
 import bisect
@@ -28,50 +29,50 @@ S = TypeVar("S", bound="Between")
 
 
 class Shape:
-    """The base class of shapes, which give values over time. Use the functions of this module to make shapes."""
+    """The base class of shapes, which define values over time. Use the functions of this module to create shapes."""
 
-    #: Whether the values depend only on the time. Only such a shape can be expected by a test.
+    #: Whether the values depend only on the time. Expectations support only such shapes.
     is_of_time = True
-    #: The duration of the shape in seconds: the length of a ramp, a table or one period.
+    #: The duration of the shape in seconds. For a wave, this is one period.
     seconds: float
 
     def of(self, signal: "SignalFormat") -> "Shape":
-        """Returns the shape for a signal, with the signal's limits as the ends that were not given. Raises ValueError
-        if the signal has no limits."""
+        """Returns the shape for this signal, with the signal's limits in place of ends that were not given. Raises
+        ValueError if the signal has no limits."""
         return self
 
     @property
     def ends(self) -> "Sequence[Value]":
-        """Values of the shape that include its minimum and its maximum."""
+        """Some values of the shape, including its minimum and its maximum."""
         raise NotImplementedError
 
     def at(self, seconds: float, number: int) -> "Value":
-        """Returns the value at this time in seconds. `number` is the number of the frame since the start of the shape."""
+        """Returns the value at this time in seconds. `number` is the index of the frame since the start of the shape."""
         raise NotImplementedError
 
     def span(self, first: float, last: float) -> tuple[float, float]:
-        """Returns the minimum and the maximum of the values between two times in seconds."""
+        """Returns the minimum and the maximum value between two times in seconds."""
         inner = [moment for moment in self._turns(first, last) if first < moment < last]
         values = [self.at(moment, 0) for moment in (first, *inner, last)]
         numbers = [float(value) for value in values]
         return min(numbers), max(numbers)
 
     def _turns(self, first: float, last: float) -> Iterable[float]:
-        """Returns the times at which the shape changes direction or jumps. Between them, the shape only rises, falls,
-        or is constant."""
+        """Returns the times at which the shape changes direction or jumps. Between these times, it only rises, only
+        falls, or is constant."""
         return ()
 
 
 @dataclass(frozen=True)
 class Between(Shape):
-    """The base class of shapes whose values are between two ends."""
+    """The base class of shapes that are defined by two values, called ends."""
 
     start: Optional[float]
     end: Optional[float]
     seconds: float
 
     def of(self: S, signal: "SignalFormat") -> S:
-        """Returns the shape for a signal, with the signal's limits as the ends that were not given."""
+        """Returns the shape for this signal, with the signal's limits in place of ends that were not given."""
         ends = {"start": (self.start, signal.least), "end": (self.end, signal.most)}
         for own, limit in ends.values():
             if own is None and not Decimal(limit).is_finite():
@@ -92,7 +93,7 @@ class Between(Shape):
 
 
 class Ramp(Between):
-    """A ramp, which keeps its end value afterwards."""
+    """A ramp. After its duration, the value stays at the end value."""
 
     def at(self, seconds: float, number: int) -> float:
         return self._part(min(max(seconds / self.seconds, 0.0), 1.0))
@@ -102,7 +103,7 @@ class Ramp(Between):
 
 
 class Sine(Between):
-    """A sine wave, which starts in the middle and rises."""
+    """A sine wave that starts in the middle and rises first."""
 
     def at(self, seconds: float, number: int) -> float:
         return self._part(0.5 + 0.5 * math.sin(2 * math.pi * max(seconds, 0.0) / self.seconds))
@@ -114,7 +115,7 @@ class Sine(Between):
 
 @dataclass(frozen=True)
 class Square(Between):
-    """A square wave, which starts with its start value."""
+    """A square wave that begins with its start value."""
 
     duty: float = 0.5
 
@@ -122,7 +123,7 @@ class Square(Between):
         return self.ends[0 if max(seconds, 0.0) % self.seconds < self.duty * self.seconds else 1]
 
     def _turns(self, first: float, last: float) -> Iterable[float]:
-        # The jumps of the wave, and the times just before them.
+        # The times at which the wave jumps, and the times just before them.
         for period in range(int(first // self.seconds), int(last // self.seconds) + 1):
             for jump in (period * self.seconds, (period + self.duty) * self.seconds):
                 yield from (jump - 1e-9, jump)
@@ -130,7 +131,7 @@ class Square(Between):
 
 @dataclass(frozen=True)
 class Noise(Between):
-    """Noise: each frame has a new random value, and the same seed gives the same values."""
+    """Noise. Each frame has a new random value. The same seed produces the same values."""
 
     seed: int = 0
     is_of_time = False
@@ -141,7 +142,8 @@ class Noise(Between):
 
 @dataclass(frozen=True)
 class Toggle(Shape):
-    """Values that follow one another: one value for each frame, or equal parts of a period for each value."""
+    """A shape that repeats a list of values. Each frame has the next value, or each value lasts an equal part of the
+    period."""
 
     values: "Sequence[Value]"
     seconds: float
@@ -194,13 +196,13 @@ class Table(Shape):
 
 @explained()
 def ramp(start: Optional[float] = None, end: Optional[float] = None, *, seconds: float = 1.0) -> Ramp:
-    """Returns a ramp from `start` to `end` that takes this many seconds. Afterwards the value stays at `end`."""
+    """Returns a ramp from `start` to `end` that lasts `seconds` seconds. After that, the value stays at `end`."""
     return Ramp(*_ends(start, end), _seconds("seconds", seconds))
 
 
 @explained()
 def sine(low: Optional[float] = None, high: Optional[float] = None, *, period: float = 1.0) -> Sine:
-    """Returns a sine wave between `low` and `high`, which starts in the middle and rises."""
+    """Returns a sine wave between `low` and `high` that starts in the middle and rises first."""
     return Sine(*_ends(low, high), _seconds("period", period))
 
 
@@ -208,7 +210,7 @@ def sine(low: Optional[float] = None, high: Optional[float] = None, *, period: f
 def square(
     low: Optional[float] = None, high: Optional[float] = None, *, period: float = 1.0, duty: float = 0.5
 ) -> Square:
-    """Returns a square wave: `low` for the fraction `duty` of each period, and then `high`."""
+    """Returns a square wave that is `low` for the fraction `duty` of each period, and `high` for the rest."""
     if not isinstance(duty, Real) or not 0 < float(duty) < 1:
         raise ValueError(f"duty is the part of a period that is low, above 0 and below 1, not {duty!r}")
     return Square(*_ends(low, high), _seconds("period", period), duty)
@@ -216,14 +218,14 @@ def square(
 
 @explained()
 def noise(low: Optional[float] = None, high: Optional[float] = None, *, seed: int = 0) -> Noise:
-    """Returns noise between `low` and `high`. Each frame has a new value, and the same seed gives the same values."""
+    """Returns noise between `low` and `high`. Each frame has a new value. The same seed produces the same values."""
     return Noise(*_ends(low, high), 1.0, seed)
 
 
 @explained()
 def toggle(*values: "Value", period: Optional[float] = None) -> Toggle:
-    """Returns a shape that repeats these values in order, by default 0 and 1. Each frame has the next value; with a
-    `period` in seconds, each period contains all values."""
+    """Returns a shape that repeats these values in order, by default 0 and 1. Each frame has the next value. With a
+    `period` in seconds, all values are repeated in every period instead."""
     return Toggle(values or (0, 1), 0.0 if period is None else _seconds("period", period))
 
 
@@ -244,10 +246,11 @@ def table(rows: "Iterable[tuple[float, Value]]") -> Table:
 def csv(
     path: "Union[str, os.PathLike[str]]", column: str, *, time: Optional[str] = None, delimiter: str = ","
 ) -> Table:
-    """Returns a table with a column of a CSV file. The first line of the file has the names of the columns.
+    """Returns a table with the values in a column of a CSV file. The first line of the file contains the names of the
+    columns.
 
-    The times in seconds are in the column `time`, or in the first column by default. They are relative to the first
-    row. Raises ValueError with the line number if the file is malformed.
+    The times in seconds are in the column `time`, by default the first column. They are relative to the first row.
+    Raises ValueError with the line number if the file is malformed.
     """
     with open(path, newline="", encoding="utf-8-sig") as file:
         reader = csv_files.reader(file, delimiter=delimiter)
@@ -269,7 +272,7 @@ def csv(
 
 
 def _value(text: str) -> "Value":
-    """Returns a number, or the text if it is the name of a number."""
+    """Parses a number. Any other string is returned unchanged, as the name of a number."""
     stripped = text.strip()
     try:
         return int(stripped)

@@ -1,11 +1,11 @@
-"""Messages and signals by name, as described in a DBC, ARXML, KCD or SYM file.
+"""Messages and signals by name, as defined in a DBC, ARXML, KCD or SYM file.
 
     database = load_database("car.dbc")
     print(database)                # each message: its sender, cycle time and signals
     print(database.decode(frame))  # Engine: speed=120.5 km/h, gear=Drive
     bus.send(database.encode("Engine", {"speed": 120.5, "gear": "Drive"}).message())
 
-cantools or canmatrix reads the file, whichever is installed.
+The file is read by cantools or canmatrix, whichever is installed.
 """
 
 import importlib
@@ -22,11 +22,11 @@ from canbusd._text import times
 from canbusd.frames import FD_LENGTHS, BadFrame, Frame, MessageLike
 
 HOW_TO_GET = "pip install cantools, or apt-get install python3-canmatrix"
-#: A library's function that reads a file.
+#: A function of a library that reads a file and yields its messages.
 Reader = Callable[[str], Iterator[MessageFormat]]
-#: The maximum number of multiplexer values for which cantools may make a list.
+#: The maximum number of multiplexer values that cantools may list.
 MOST_VALUES = 65_536
-#: The libraries that read files, in the order in which they are tried, and the modules that use them.
+#: The libraries that read files, in the order in which they are tried, and for each the module here that calls it.
 READERS = {"cantools": "canbusd._database.from_cantools", "canmatrix": "canbusd._database.from_canmatrix"}
 
 
@@ -36,7 +36,7 @@ class Decoded(NamedTuple):
     #: The name of the message.
     message: str
     signals: tuple[Signal, ...]
-    #: The reason why there are no signals: the frame is shorter than the message, or decoding failed.
+    #: The reason why there are no signals: the frame is shorter than the message, or could not be decoded.
     fault: str = ""
 
     def value(self, name: str) -> Value:
@@ -51,9 +51,9 @@ class Decoded(NamedTuple):
 
 
 class Database(NamesWhatThereIs):
-    """The messages of one or more files, by identifier and name. `str()` shows all messages.
+    """The messages of one or more files, by identifier and by name. `str()` shows all messages.
 
-    Raises DatabaseError if two different messages have the same name or the same identifier.
+    The constructor raises DatabaseError if two different messages have the same name or the same identifier.
     """
 
     _INSTEAD = {
@@ -74,8 +74,8 @@ class Database(NamesWhatThereIs):
             self._by_name[one.name] = self._by_frame[frame] = one
 
     def with_more(self, other: "Database") -> "Database":
-        """Returns a database with these messages and those of another database. Messages of the other database whose
-        name or identifier exists here are left out."""
+        """Returns a database with these messages and the messages of another database. A message of the other database
+        is omitted if its name or identifier already exists here."""
         more = [one for one in other.messages if not self._has(one)]
         return Database([*self.messages, *more]) if more else self
 
@@ -104,7 +104,8 @@ class Database(NamesWhatThereIs):
         return self._by_name[name]
 
     def message_of(self, frame: MessageLike) -> Optional[MessageFormat]:
-        """Returns the message of a frame; None for an unknown identifier, a remote frame or an error message frame."""
+        """Returns the message that a frame contains; None for an unknown identifier, a remote frame or an error message
+        frame."""
         if frame.is_remote_frame or frame.is_error_frame:
             return None
         return self._by_frame.get((frame.arbitration_id, frame.is_extended_id))
@@ -116,7 +117,7 @@ class Database(NamesWhatThereIs):
             return None
         if len(frame.data) < message.size:
             return Decoded(message.name, (), f"{len(frame.data)} of {times(message.size, 'byte')}")
-        # The libraries raise many kinds of exceptions.
+        # The libraries raise many types of exceptions.
         try:
             return Decoded(message.name, tuple(message.decode(bytes(frame.data[: message.size]))))
         except Exception as fault:
@@ -124,7 +125,8 @@ class Database(NamesWhatThereIs):
 
     @explained("values are a dict, such as {'EngineSpeed': 800}")
     def encode(self, name: str, values: Mapping[str, Value]) -> Frame:
-        """Returns the frame of this message with these signal values: numbers, names of numbers, or numbers as text."""
+        """Returns the frame of this message with these signal values. A value is a number, a number as a string, or the
+        name of a number."""
         if not isinstance(values, Mapping):
             raise ValueError(f"values are a dict of signals, such as {{'EngineSpeed': 800}}, not {values!r}")
         message = self.message(name)
@@ -135,7 +137,7 @@ class Database(NamesWhatThereIs):
 
 
 def lines_of(message: MessageFormat) -> Iterator[str]:
-    """Returns a line for each signal of a message."""
+    """Yields a line of text for each signal of a message."""
     return (f"  {signal}" for signal in message.signals)
 
 
@@ -160,9 +162,9 @@ def load_database(*paths: Union[str, "os.PathLike[str]"], library: Optional[str]
     name, messages_in = installed(library)
     messages: list[MessageFormat] = []
     for path in (os.fspath(path) for path in paths):
-        # This raises the usual error if the file does not exist.
+        # Raises the usual OSError if the file does not exist.
         open(path, "rb").close()
-        # The libraries raise many kinds of exceptions.
+        # The libraries raise many types of exceptions.
         try:
             if is_dbc(path):
                 check_numbers(path, MOST_VALUES if name == "cantools" else None)
@@ -178,8 +180,8 @@ def load_database(*paths: Union[str, "os.PathLike[str]"], library: Optional[str]
 
 
 def refusal(path: str, library: str, read: Reader, fault: Exception) -> DatabaseError:
-    """Returns the error for a file that can't be read. For a DBC file it has the line number, which the libraries often
-    omit."""
+    """Returns the error for a file that can't be read. For a DBC file, it includes the line number, which the libraries
+    often omit."""
     place, said = path, str(fault) or type(fault).__name__
 
     def is_refused(beginning: str) -> bool:
@@ -198,8 +200,9 @@ def refusal(path: str, library: str, read: Reader, fault: Exception) -> Database
 
 
 def installed(library: Optional[str]) -> tuple[str, Reader]:
-    """Returns the name of the library that reads files, and its reading function."""
-    # Without a handler, canmatrix prints to standard error which optional formats are missing.
+    """Returns the name of the library that reads files, and its reader function. `library` is the name of a library;
+    None selects the first one that is installed."""
+    # Without a handler, canmatrix writes to standard error which optional formats are missing.
     logging.getLogger("canmatrix").addHandler(logging.NullHandler())
     if library is not None and library not in READERS:
         raise ValueError(f"library is one of {', '.join(READERS)}, not {library!r}")
@@ -214,6 +217,6 @@ def installed(library: Optional[str]) -> tuple[str, Reader]:
 
 
 def how_to_get(library: Optional[str]) -> str:
-    """Returns the commands that install this library, or either library if `library` is None."""
+    """Returns the commands that install this library, or either of the libraries if `library` is None."""
     cantools, _, canmatrix = HOW_TO_GET.partition(", or ")
     return {"cantools": cantools, "canmatrix": canmatrix}.get(library or "", HOW_TO_GET)

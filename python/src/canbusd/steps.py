@@ -13,11 +13,11 @@ from typing import Any, Optional
 
 
 class Step:
-    """A step: its title, its start time in seconds, how many steps it is nested in, and its outcome."""
+    """A step: its title, its start time in seconds, its nesting depth, and its outcome."""
 
     def __init__(self, title: str, began: float, depth: int) -> None:
         self.title, self.began, self.depth = title, began, depth
-        #: `passed` or `failed` once the step has ended.
+        #: `passed` or `failed`, once the step has ended.
         self.outcome = "not over"
 
     def __str__(self) -> str:
@@ -25,7 +25,7 @@ class Step:
 
 
 class Steps:
-    """The steps of the test that is running."""
+    """The steps of the test that is currently running."""
 
     def __init__(self) -> None:
         self.done: list[Step] = []
@@ -33,12 +33,12 @@ class Steps:
         self._start = time.monotonic()
 
     def lines(self) -> list[str]:
-        """Returns one line of text for each step."""
+        """Returns the steps as text, one line for each step."""
         return [str(one) for one in self.done]
 
     @contextlib.contextmanager
     def step(self, title: str, now: Optional[Callable[[], float]]) -> Iterator[None]:
-        """A context that adds a step, and notes its outcome at the end."""
+        """A context manager that adds a step, and records its outcome at the end of the block."""
         began = now() if now is not None else time.monotonic() - self._start
         one = Step(title, began, self._depth)
         self.done.append(one)
@@ -54,7 +54,7 @@ class Steps:
             self._depth -= 1
 
 
-#: The steps of the test that pytest is running at present.
+#: The steps of the test that pytest is currently running.
 current = Steps()
 
 
@@ -66,12 +66,12 @@ def begin() -> None:
 
 @contextlib.contextmanager
 def step(title: str, *, now: Optional[Callable[[], float]] = None) -> Iterator[None]:
-    """Marks a step of a test: ``with step("the ECU wakes"): ..``. As a decorator, it makes each call of a function a
+    """Marks a step of a test: ``with step("the ECU wakes"): ..``. As a decorator, it makes every call of a function a
     step.
 
-    The test's report shows each step with the seconds since the start of the test, or with the result of `now`. Steps
-    appear in JUnit files, in the reports of pytest-html and allure-pytest, and on the terminal if the test fails. Steps
-    may be nested.
+    The test's report shows each step with its start time: the seconds since the start of the test, or the result of
+    `now`. Steps appear in JUnit files, in the reports of pytest-html and allure-pytest, and on the terminal if the test
+    fails. Steps may be nested.
     """
     if not isinstance(title, str) or not title:
         raise ValueError(f"title is the text of a step, not {title!r}")
@@ -84,5 +84,5 @@ def step(title: str, *, now: Optional[Callable[[], float]] = None) -> Iterator[N
 
 
 def with_allure() -> Any:
-    """Returns the module `allure` if pytest has loaded the plugin of allure; else None."""
+    """Returns the module `allure` if pytest has loaded the allure-pytest plugin; otherwise None."""
     return importlib.import_module("allure") if "allure_pytest" in sys.modules else None

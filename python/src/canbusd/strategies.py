@@ -5,8 +5,8 @@
         with Bench("can0,can1", faults=plan) as bench:
             ...
 
-A bench gives the same run for the same plan. So a failure that Hypothesis has found and shrunk can become an ordinary
-test: the printed plan is Python code.
+A bench always produces the same run from the same plan. So a failure that Hypothesis has found and shrunk can be turned
+into an ordinary test: the plan that Hypothesis prints is Python code.
 """
 
 from collections.abc import Sequence
@@ -23,8 +23,8 @@ Names = Union[str, Sequence[str]]
 
 
 def frames(*, extended: Optional[bool] = None, remote: bool = True, fd: bool = False) -> SearchStrategy[Frame]:
-    """Generates valid frames with 11-bit or 29-bit identifiers: data frames, also remote frames unless `remote` is
-    false, and also FD frames if `fd` is true.
+    """Generates valid data frames with 11-bit or 29-bit identifiers. Also generates remote frames unless `remote` is
+    false, and FD frames if `fd` is true.
 
     The simplest frames are data frames with a low 11-bit identifier and no data.
     """
@@ -35,13 +35,13 @@ def frames(*, extended: Optional[bool] = None, remote: bool = True, fd: bool = F
 
 
 def identifiers(extended: Optional[bool] = None) -> SearchStrategy[tuple[int, bool]]:
-    """Generates pairs of an identifier and a bool, which is true if the identifier has 29 bits."""
+    """Generates pairs of an identifier and a bool. The bool is true if the identifier has 29 bits."""
     short, long = (st.tuples(st.integers(0, most), st.just(most > 0x7FF)) for most in (0x7FF, 0x1FFFFFFF))
     return st.one_of(short, long) if extended is None else long if extended else short
 
 
 def data_frames(extended: Optional[bool] = None) -> SearchStrategy[Frame]:
-    """Generates classic data frames."""
+    """Generates classic CAN data frames."""
     return st.builds(lambda one, data: Frame(one[0], data, one[1]), identifiers(extended), bytes_of(range(9)))
 
 
@@ -55,7 +55,7 @@ def remote_frames(extended: Optional[bool] = None) -> SearchStrategy[Frame]:
 
 
 def fd_frames(extended: Optional[bool] = None) -> SearchStrategy[Frame]:
-    """Generates FD frames with all valid lengths, and with all combinations of flags."""
+    """Generates FD frames with all valid data lengths and all combinations of flags."""
     return st.builds(
         lambda one, data, brs, esi: Frame(
             one[0], data, one[1], is_fd=True, bitrate_switch=brs, error_state_indicator=esi
@@ -68,7 +68,7 @@ def fd_frames(extended: Optional[bool] = None) -> SearchStrategy[Frame]:
 
 
 def bytes_of(lengths: Sequence[int]) -> SearchStrategy[bytes]:
-    """Generates byte strings with these lengths, each length equally often."""
+    """Generates byte strings of these lengths, with equal probability for each length."""
     return st.sampled_from(lengths).flatmap(lambda length: st.binary(min_size=length, max_size=length))
 
 
@@ -78,7 +78,7 @@ def listed(names: Names) -> list[str]:
 
 
 def faults_of_one(names: Names) -> SearchStrategy[str]:
-    """Generates the fault of one attempt, spelled as in a fault script."""
+    """Generates the fault of one attempt, written as in a fault script."""
     known = listed(names)
     hit = st.sets(st.sampled_from(known), min_size=1).map(lambda some: ",".join(sorted(some, key=known.index)))
     local = st.builds("local {} {}".format, st.sampled_from(["crc", "stuff", "form"]), hit)
@@ -86,8 +86,8 @@ def faults_of_one(names: Names) -> SearchStrategy[str]:
 
 
 def rules(names: Names, attempts: int = 32) -> SearchStrategy[Rule]:
-    """Generates rules for the next attempts of one interface or of any interface. A rule may skip some attempts. Both
-    numbers are at most `attempts`."""
+    """Generates rules for the next attempts of one interface or of all interfaces. A rule may skip attempts. It applies
+    to at most `attempts` attempts, and skips at most `attempts`."""
     known = listed(names)
     senders = st.one_of(st.just(()), st.sampled_from(known).map(lambda name: (name,)))
     counts, skips = st.integers(1, attempts), st.integers(0, attempts)
@@ -98,14 +98,14 @@ def fault_plans(names: Names, attempts: int = 32, most: int = 8, most_rules: int
     """Generates fault plans for these interfaces. A plan has at most `most` faults, all in the first `attempts`
     attempts, and at most `most_rules` rules.
 
-    Plans shrink to few faults in early attempts. The simplest fault is one in the last bit.
+    Plans shrink to few faults in early attempts. The simplest fault is a fault in the last bit.
     """
     verdicts = st.dictionaries(st.integers(0, attempts - 1), faults_of_one(names), max_size=most)
     return st.builds(plan_of, verdicts, st.lists(rules(names, attempts), max_size=most_rules))
 
 
 def plan_of(verdicts: dict[int, str], given: Sequence[Rule] = ()) -> Faults:
-    """Returns the plan with these faults, given by the numbers of their attempts, and these rules."""
+    """Returns the plan with these faults (verdicts by attempt number) and these rules."""
     plan = Faults()
     for rule in given:
         plan._add_rule(rule)
@@ -117,8 +117,8 @@ def plan_of(verdicts: dict[int, str], given: Sequence[Rule] = ()) -> Faults:
 def message_sets(
     names: Names, *, most: int = 4, extended: Optional[bool] = None
 ) -> SearchStrategy[dict[str, list[Frame]]]:
-    """Generates a dict with the messages that each interface of a bus sends. No two interfaces share an identifier, as
-    on a real bus."""
+    """Generates a dict with the messages that each interface of a bus sends. As on a real bus, no two interfaces send
+    the same identifier."""
     known = listed(names)
     senders = st.lists(
         st.tuples(data_frames(extended), st.sampled_from(known)),

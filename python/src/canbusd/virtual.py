@@ -1,4 +1,5 @@
-"""Virtual time: whether this process runs in virtual time, and how pytest restarts itself in virtual time."""
+"""Virtual time: functions that tell whether this process runs in virtual time, and that restart pytest in virtual time.
+"""
 
 import functools
 import os
@@ -9,8 +10,8 @@ import warnings
 from collections.abc import Iterable, Sequence
 from typing import Optional
 
-#: The variables that canbusd-run sets for programs in virtual time: the path of the run's shared memory, and the
-#: options that repeat the run.
+#: The environment variables that canbusd-run sets for programs in virtual time: the path of the run's shared memory,
+#: and the options that repeat the run.
 SETTING, OPTIONS = "CANBUSD_RUN_VIRTUAL", "CANBUSD_RUN_OPTIONS"
 
 
@@ -41,19 +42,19 @@ def virtual_words(words: Sequence[str], seed: Optional[int] = None, jitter: Opti
 
 
 def python_words(words: Sequence[str]) -> list[str]:
-    """Returns the command that started this Python process. Before Python 3.10, returns a command that runs pytest with
-    the arguments `words`."""
+    """Returns the command line of this Python process. Before Python 3.10, returns a command that runs pytest with the
+    arguments `words`."""
     given: Sequence[str] = getattr(sys, "orig_argv", ())
     return [sys.executable, *given[1:]] if given else [sys.executable, "-m", "pytest", *words]
 
 
 def begin_test(test: str) -> None:
-    """Seeds `random` at the start of a pytest test from the options of the run and the name of the test, as for all
-    random sources."""
+    """Seeds `random` at the start of a pytest test. The seed is derived from the options of the run and the name of the
+    test, like those of all other random sources."""
     random.seed(f"{os.environ.get(OPTIONS)} {test}")
 
 
 def repeated_by(test: str) -> str:
-    """Returns the command that repeats a pytest test with the virtual time of this run."""
+    """Returns the command that repeats a pytest test in the virtual time of this run."""
     options = os.environ.get(OPTIONS, "").replace("--", "--canbusd-")
     return " ".join(filter(None, ["python3 -m pytest --canbusd-virtual", options, shlex.quote(test)]))

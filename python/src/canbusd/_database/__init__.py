@@ -1,1 +1,1 @@
-"""The messages and signals of databases, as cantools and canmatrix read them."""
+"""The messages and signals in database files, as read by cantools and canmatrix."""

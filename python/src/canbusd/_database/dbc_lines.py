@@ -1,6 +1,6 @@
-"""Checks of the lines of DBC files: numbers that no signal can have, and the lines of messages and signals.
+"""Checks the lines of DBC files for numbers that no signal can have, and finds the lines of messages and signals.
 
-The libraries that read DBC files parse every number, however long this takes.
+The libraries that read DBC files parse every number, even if this takes very long.
 """
 
 import re
@@ -10,23 +10,23 @@ from typing import Optional
 
 from canbusd._text import shown
 
-#: The maximum number of digits of a number, and the largest exponent. A double needs at most 309 digits and exponent
-#: 324.
+#: The maximum number of digits of a number, and the largest exponent. A double requires at most 309 digits and the
+#: exponent 324.
 MOST_DIGITS, MOST_EXPONENT = 400, 999
-#: The maximum length of a message, and of a line of the file, in bytes.
+#: The maximum length of a message, and of a line in the file, in bytes.
 MOST_BYTES, MOST_LINE = 65_535, 1 << 20
 QUOTE = re.compile(rb'(?<!\\)"')
 NUMBER = re.compile(rb"(?<![\w.])[0-9.]+(?:[eE][-+]?([0-9]+))?")
 MESSAGE = re.compile(rb"BO_ +([0-9]+) +([^ :]+) *: *([0-9]*)")
 SIGNAL = re.compile(rb"SG_ +([^ :]+)[^:]*:(?: *([0-9]+) *\| *([0-9]+) *@)?")
 RANGE = re.compile(rb"([0-9]{1,400})-([0-9]{1,400})")
-#: The pattern of attributes that are read as numbers, and the pattern of their valid values.
+#: Matches attributes that are read as numbers. The second pattern matches their valid values.
 ATTRIBUTE = re.compile(rb'BA_(?:DEF_DEF_)? +"(Gen(?:Msg(?:Cycle|StartDelay)Time|SigStartValue))"(?: .*)? ([^ ;]+) *;')
 FINITE = re.compile(rb"[-+]?(?:[0-9]+\.?[0-9]*|\.[0-9]+)(?:[eE][-+]?[0-9]+)?")
 
 
 class LineFault(ValueError):
-    """An error in a line of a file."""
+    """An error in a line of a DBC file."""
 
     def __init__(self, line: int, text: str) -> None:
         super().__init__(text)
@@ -39,12 +39,12 @@ def is_dbc(path: str) -> bool:
 
 
 def check_numbers(path: str, most_values: Optional[int] = None) -> None:
-    """Raises LineFault for a number that is outside the range of signals, because it makes no sense or takes long to
-    read. Also raises it for a range of more than `most_values` multiplexer values, because some libraries list all of
-    them."""
+    """Raises LineFault for a number outside the range of signals, because such a number is meaningless or takes long to
+    parse. Also raises LineFault for a range of more than `most_values` multiplexer values, because some libraries list
+    all values."""
     is_in_text = False
     for number, line in lines_of(path):
-        # Numbers in a quoted text are ignored. The text may begin on an earlier line.
+        # Numbers in a quoted string are ignored. The string may begin on an earlier line.
         parts = QUOTE.split(line)
         fault = fault_in(b'"'.join(parts[is_in_text::2]).strip(), b"" if is_in_text else line.strip())
         is_in_text ^= len(parts) % 2 == 0
@@ -56,7 +56,7 @@ def check_numbers(path: str, most_values: Optional[int] = None) -> None:
 
 
 def lines_of(path: str) -> Iterator[tuple[int, bytes]]:
-    """Yields the lines of a file with their numbers. Raises LineFault if a line is too long."""
+    """Yields the number and content of each line of a file. Raises LineFault if a line is too long."""
     with open(path, "rb") as file:
         for number, line in enumerate(iter(lambda: file.readline(MOST_LINE), b""), 1):
             if len(line) == MOST_LINE:
@@ -65,7 +65,7 @@ def lines_of(path: str) -> Iterator[tuple[int, bytes]]:
 
 
 def fault_in(bare: bytes, line: bytes) -> Optional[str]:
-    """Returns the error in a line; None if there is none. `bare` is the same line without its quoted texts."""
+    """Returns the error message for a line; None if the line is correct. `bare` is the line without its quoted strings."""
     for one in NUMBER.finditer(bare):
         if len(one[0]) > MOST_DIGITS or int(one[1] or 0) > MOST_EXPONENT:
             said = one[0].decode() if len(one[0]) < 30 else f"{one[0][:12].decode()} .. of {len(one[0])} characters"
@@ -82,8 +82,8 @@ def fault_in(bare: bytes, line: bytes) -> Optional[str]:
 
 
 def refused_line(path: str, is_refused: Callable[[str], bool]) -> LineFault:
-    """Returns the number and text of the line that causes a refusal: the file is refused if it is cut after this line,
-    but not if it is cut before."""
+    """Returns the number and content of the line that causes a refusal. A library refuses the file if it is cut off
+    after this line, but not if it is cut off before this line."""
     lines = [line for _, line in lines_of(path)]
     right, wrong = 0, len(lines)
     with tempfile.NamedTemporaryFile(suffix=".dbc") as file:
@@ -98,8 +98,8 @@ def refused_line(path: str, is_refused: Callable[[str], bool]) -> LineFault:
 
 
 def line_of(path: str, identifier: int, message: str, signal: str = "") -> int:
-    """Returns the line number of the last message with this identifier and name, or of one of its signals; 0 if there
-    is none."""
+    """Returns the line number of the last message with this identifier and name. If `signal` is given, returns the line
+    number of that signal. Returns 0 if there is no such message."""
     found, is_its = 0, False
     for number, line in lines_of(path):
         text = line.strip()

@@ -1,8 +1,8 @@
-"""The messages and signals of a database file, in the same form for all libraries.
+"""The messages and signals of a database file, in the same format for all libraries.
 
-A library reads the file and decodes frames to raw numbers. This module computes values, encodes messages, selects the
-signals of multiplexed messages and checks the file. So the results do not depend on the library. Also, canmatrix takes
-100 us to encode a message, which is too slow for a rest bus.
+A library reads the file and decodes frames to raw numbers. Everything else is done in this module, so that the results
+do not depend on the library: it computes values, encodes messages, selects the signals of multiplexed messages and
+checks the file. Besides, canmatrix takes 100 us to encode a message, which is too slow for a rest bus.
 """
 
 import struct
@@ -17,21 +17,21 @@ from canbusd.frames import FD_LENGTHS
 
 #: The value of a signal: a number, or the name of a number.
 Value = Union[int, float, str]
-#: The raw number of a signal, as it is sent on the bus.
+#: The raw value of a signal, as it is sent on the bus.
 Raw = Union[int, float]
-#: Parts of a send type's name, in lower case. With one of EVENTS, a message is sent by an event and not at its cycle
-#: time, unless the name also has one of PERIODS.
+#: Parts of the names of send types, in lower case. A send type whose name contains one of EVENTS is triggered by an
+#: event and not cyclic, unless the name also contains one of PERIODS.
 EVENTS = ("event", "spontan", "trigger", "change", "write", "ifactive")
 PERIODS = ("cycl", "period")
-#: Numbers from this limit on are converted to float, even if they have no fractional part.
+#: Numbers of at least this size are converted to float, even if they are whole.
 MOST_WHOLE = Decimal(10) ** 28
-#: The `struct` format of a float, by its number of bits.
+#: The `struct` format of a float, by its size in bits.
 FLOATS = {16: "<e", 32: "<f", 64: "<d"}
 
 
 class DatabaseError(ValueError):
-    """A file can't be read, or it has no such message or signal. The attributes name the file, the message and the
-    signal, if they are known."""
+    """A file can't be read, or does not contain the given message or signal. The attributes name the file, the message
+    and the signal, if they are known."""
 
     def __init__(self, text: str, path: str = "", message: str = "", signal: str = "") -> None:
         super().__init__(text)
@@ -42,7 +42,7 @@ class Signal(NamedTuple):
     """A decoded signal of a frame."""
 
     name: str
-    #: A number after applying factor and offset, or the name of the number if the file defines one.
+    #: The number after applying factor and offset, or the name of the number if the file defines one.
     value: Value
     unit: str
 
@@ -52,31 +52,31 @@ class Signal(NamedTuple):
 
 @dataclass(frozen=True)
 class SignalFormat:
-    """The format of a signal in a message, as described in the file."""
+    """The format of a signal in a message, as defined in the file."""
 
     name: str
     unit: str = ""
     #: The names of the nodes that receive the signal.
     receivers: tuple[str, ...] = ()
-    #: The value is the raw number times `factor`, plus `offset`.
+    #: The value is the raw value times `factor`, plus `offset`.
     factor: Decimal = Decimal(1)
     offset: Decimal = Decimal(0)
-    #: The minimum and the maximum of the value; None if the file has no limits.
+    #: The minimum and the maximum of the value; None if the file defines no limits.
     minimum: Optional[Decimal] = None
     maximum: Optional[Decimal] = None
-    #: The names of raw numbers.
+    #: The names that the file defines for raw values.
     choices: Mapping[int, str] = field(default_factory=dict)
-    #: The initial raw number, before it is limited to the valid range.
+    #: The initial raw value, before it is limited to the valid range.
     raw_start: Decimal = Decimal(0)
     is_signed: bool = False
     is_float: bool = False
-    #: The bits of the frame that the signal occupies, lowest bit first. Bit 0 is the lowest bit of byte 0, and bit 8 is
-    #: the lowest bit of byte 1.
+    #: The bit positions of the signal in the frame, lowest bit first. Position 0 is the lowest bit of byte 0, and
+    #: position 8 is the lowest bit of byte 1.
     bits: tuple[int, ...] = ()
-    #: Whether the signal is a multiplexer, whose raw number selects other signals.
+    #: Whether the signal is a multiplexer, whose raw value selects other signals.
     is_multiplexer: bool = False
-    #: The name of the multiplexer that selects this signal, and the raw numbers for which it does, as pairs of a first
-    #: and a last number.
+    #: The name of the multiplexer that selects this signal, and the ranges of its raw values that do so. Each range is
+    #: a pair of a first and a last value.
     multiplexer: str = ""
     multiplexer_values: tuple[tuple[int, int], ...] = ()
 
@@ -87,7 +87,7 @@ class SignalFormat:
 
     @cached_property
     def raw(self) -> Raw:
-        """The initial raw number, within the signal's limits."""
+        """The initial raw value, within the signal's limits."""
         return self.number(min(max(self.raw_start * self.factor + self.offset, self.least), self.most))
 
     @cached_property
@@ -108,12 +108,12 @@ class SignalFormat:
         return choose(raw * self.factor + self.offset for raw in self._raw_limits())
 
     def _raw_limits(self) -> tuple[int, int]:
-        """Returns the smallest and the largest raw number that fit into the signal's bits."""
+        """Returns the smallest and the largest raw value that fit into the signal's bits."""
         size = len(self.bits)
         return (-(1 << size - 1), (1 << size - 1) - 1) if self.is_signed else (0, (1 << size) - 1)
 
     def value(self, raw: Raw) -> Value:
-        """Returns the value of a raw number, or the name of the number."""
+        """Returns the value for a raw value, or its name if it has one."""
         if raw in self.choices:
             return self.choices[int(raw)]
         if self.is_float and raw - raw:
@@ -121,8 +121,8 @@ class SignalFormat:
         return plain(Decimal(str(raw)) * self.factor + self.offset)
 
     def raw_of(self, value: Value) -> Raw:
-        """Returns the raw number for a value, for the text of a value, or for a name. Raises DatabaseError if there is
-        no such number."""
+        """Returns the raw value for a value, a value as a string, or a name. Raises DatabaseError if there is no such
+        raw value."""
         for number_of_name, name in self.choices.items():
             if name == value:
                 return number_of_name
@@ -135,13 +135,12 @@ class SignalFormat:
         return raw
 
     def number(self, value: Decimal) -> Raw:
-        """Returns the raw number for a value."""
+        """Returns the raw value for a value."""
         raw = (value - self.offset) / self.factor
         return float(raw) if self.is_float else int(raw.to_integral_value())
 
     def placed(self, raw: Raw) -> int:
-        """Returns the bits of a frame that are set by this raw number, as an integer whose lowest byte is byte 0 of the
-        frame."""
+        """Returns the bits of a frame that this raw value sets, as an integer whose lowest byte is byte 0 of the frame."""
         size = len(self.bits)
         number = int.from_bytes(struct.pack(FLOATS[size], raw), "little") if self.is_float else int(raw)
         return sum(1 << bit for place, bit in enumerate(self.bits) if number >> place & 1)
@@ -179,7 +178,7 @@ class SignalFormat:
 
 @dataclass(frozen=True)
 class MessageFormat:
-    """The format of a message, as described in the file. `str()` shows it on one line."""
+    """The format of a message, as defined in the file. `str()` shows it on one line."""
 
     name: str
     identifier: int
@@ -187,24 +186,25 @@ class MessageFormat:
     #: The length of the message in bytes.
     size: int
     signals: tuple[SignalFormat, ...]
-    #: The library's function that decodes the raw numbers of the signals in a frame.
+    #: The library's function that decodes the raw values of the signals in a frame.
     unpack: Callable[[bytes], Mapping[str, Raw]] = field(repr=False, compare=False)
     is_fd: bool = False
     #: The names of the nodes that send the message, beginning with the main sender.
     senders: tuple[str, ...] = ()
-    #: The cycle time in seconds; 0 if the file defines none.
+    #: The cycle time in seconds; 0 if the file does not define one.
     cycle_time: float = 0.0
-    #: The delay in seconds before the first frame after the start; 0 if the file defines none.
+    #: The delay in seconds between the start and the first frame; 0 if the file does not define one.
     start_delay: float = 0.0
     #: The send type of the message, as named in the file.
     send_type: str = ""
-    #: The attributes of the message in a DBC file: their texts, by name.
+    #: The attributes of the message in a DBC file: their values as strings, by name.
     attributes: Mapping[str, str] = field(default_factory=dict, repr=False, compare=False)
     #: The path of the database file.
     path: str = field(default="", compare=False)
 
     def place(self, signal: str = "") -> str:
-        """Returns the path of the message's file; for a DBC file also the line of the message or of its signal."""
+        """Returns the path of the message's file. For a DBC file, it is followed by the line of the message or the
+        signal."""
         line = line_of(self.path, self.identifier, self.name, signal) if is_dbc(self.path) else 0
         return f"{self.path}:{line}" if line else self.path
 
@@ -225,16 +225,16 @@ class MessageFormat:
 
     def decode(self, data: bytes) -> Iterator[Signal]:
         """Yields the decoded signals of a frame that is as long as the message. Multiplexed signals that are not
-        present are skipped."""
+        present in the frame are skipped."""
         raw = self.unpack(data)
         for signal in self.present(raw):
             if signal.name in raw:
                 yield Signal(signal.name, signal.value(raw[signal.name]), signal.unit)
 
     def encode(self, values: Mapping[str, Value], is_strict: bool = True) -> bytes:
-        """Returns the bytes of the message with these values; all other signals have their initial values.
+        """Returns the bytes of the message with these values. All other signals have their initial values.
 
-        If `is_strict` is true, each given signal must be selected by its multiplexers.
+        If `is_strict` is true, each signal in `values` must be selected by its multiplexers.
         """
         try:
             raw = {signal.name: signal.raw for signal in self.signals}
@@ -252,11 +252,11 @@ class MessageFormat:
             bits = sum(signal.placed(raw[signal.name]) for signal in self.signals if signal.name in there)
             return bits.to_bytes(self.size, "little")
         except OverflowError as fault:
-            # The float is too large for the number of bits.
+            # The float is too large for its size in bits.
             raise DatabaseError(f"{self.place()}: message {self.name}: {fault}", self.path, self.name) from None
 
     def present(self, raw: Mapping[str, Raw]) -> list[SignalFormat]:
-        """Returns the signals that are present when the multiplexers have these raw numbers."""
+        """Returns the signals that are present if the multiplexers have these raw values."""
         if not self._is_multiplexed:
             return list(self.signals)
         by_name = {signal.name: signal for signal in self.signals}
@@ -284,8 +284,8 @@ class MessageFormat:
         return len(bits) > len(set(bits))
 
     def check(self) -> None:
-        """Raises DatabaseError if the file contradicts itself in this message. The error names the file, the message
-        and the signal."""
+        """Raises DatabaseError if the definition of this message in the file is contradictory. The error names the
+        file, the message and the signal."""
         seen: set[str] = set()
         for signal in self.signals:
             past = [bit for bit in signal.bits if not 0 <= bit < self.size * 8]
@@ -305,8 +305,7 @@ class MessageFormat:
             seen.add(signal.name)
 
     def _check_bits(self, there: Sequence[str]) -> None:
-        """Raises DatabaseError if two of these signals share a bit, because the bit could only have the value of one of
-        them."""
+        """Raises DatabaseError if two of these signals share a bit, because the bit can't have both values."""
         owners: dict[int, str] = {}
         for signal in self.signals if self._has_common_bits else ():
             if signal.name in there:
@@ -331,8 +330,8 @@ class MessageFormat:
 
 
 def bits_of(start: int, size: int, is_little_endian: bool) -> tuple[int, ...]:
-    """Returns the bits of a signal, lowest bit first. `start` is the lowest bit of a little-endian signal, or the
-    highest bit of a big-endian signal."""
+    """Returns the bit positions of a signal, lowest bit first. `start` is the position of the lowest bit of a
+    little-endian signal, or of the highest bit of a big-endian signal."""
     if is_little_endian:
         return tuple(range(start, start + size))
     highest = start // 8 * 8 + 7 - start % 8
@@ -347,7 +346,7 @@ def limits(least: object, most: object) -> tuple[Optional[Decimal], Optional[Dec
 
 
 def named(nodes: Optional[Sequence[object]]) -> tuple[str, ...]:
-    """Returns the names of nodes without Vector__XXX, which means no node in a DBC file."""
+    """Returns the names of nodes, without Vector__XXX, which stands for no node in a DBC file."""
     names = [str(node).strip() for node in nodes or ()]
     return tuple(name for name in dict.fromkeys(names) if name and name != "Vector__XXX")
 
@@ -360,5 +359,5 @@ def plain(value: Union[int, float, Decimal]) -> Union[int, float]:
 
 
 def shown(value: Decimal) -> str:
-    """Returns a limit as text. The limit may be infinite if a float signal has no limits."""
+    """Returns a limit as a string. A float signal without limits has infinite limits."""
     return f"{plain(value)}" if value.is_finite() else f"{value}"

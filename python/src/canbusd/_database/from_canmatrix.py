@@ -14,10 +14,10 @@ from canbusd._database.dbc_lines import LineFault, lines_of
 from canbusd._database.formats import DatabaseError, MessageFormat, Raw, SignalFormat, bits_of, limits, named
 from canbusd._text import shown
 
-# canmatrix prints a text of this form when it ignores a line of a DBC file.
+# Matches the output of canmatrix when it ignores a line of a DBC file.
 LEFT_OUT = re.compile(r"^error with line no: [0-9]+\n(b.*)$", re.M)
 
-# The extensions of files that canmatrix reads with lxml. Without lxml, canmatrix rejects such files.
+# The extensions of files that canmatrix reads with lxml. Without lxml, canmatrix can't read these files.
 OF_LXML = (".arxml", ".kcd", ".xml")
 
 
@@ -29,7 +29,8 @@ def messages_in(path: str) -> Iterator[MessageFormat]:
         matrices = formats.loadp(path)
     left_out = LEFT_OUT.search(printed.getvalue())
     if left_out:
-        # The line number that canmatrix prints may be wrong because of a line of values, so this searches for the line.
+        # The line number that canmatrix prints may be wrong because of a line with values, so the line itself is
+        # searched for.
         number = next((number for number, line in lines_of(path) if repr(line) == left_out[1]), 0)
         raise LineFault(number, shown(ast.literal_eval(left_out[1]).decode("latin-1").strip()))
     if not matrices:
@@ -42,7 +43,7 @@ def messages_in(path: str) -> Iterator[MessageFormat]:
 
 def message_of(frame: Any, matrix: Any, path: str) -> MessageFormat:
     """Returns the message format for a canmatrix frame."""
-    # The signals of a container are in PDUs, and each frame determines where its PDUs are.
+    # The signals of a container message are in PDUs. Each frame determines the positions of its PDUs.
     signals = [] if frame.is_pdu_container else frame.signals
     multiplexers = [signal.name for signal in signals if signal.is_multiplexer]
 
@@ -67,7 +68,7 @@ def message_of(frame: Any, matrix: Any, path: str) -> MessageFormat:
 
 
 def signal_of(signal: Any, multiplexers: list[str], matrix: Any) -> SignalFormat:
-    """Returns the signal format for a canmatrix signal in a frame with these multiplexers."""
+    """Returns the signal format for a canmatrix signal. `multiplexers` are the names of the multiplexers in its frame."""
     above, ranges = signal.muxer_for_signal or "", tuple((int(first), int(last)) for first, last in signal.mux_val_grp)
     if not above and signal.mux_val is not None and multiplexers:
         above = multiplexers[0]
@@ -98,5 +99,5 @@ def signal_of(signal: Any, multiplexers: list[str], matrix: Any) -> SignalFormat
 
 
 def seconds(milliseconds: Any) -> float:
-    """Converts a time from milliseconds, as in the file, to seconds."""
+    """Converts milliseconds, which the file uses, to seconds."""
     return float(milliseconds or 0) / 1000

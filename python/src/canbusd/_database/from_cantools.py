@@ -17,7 +17,7 @@ def messages_in(path: str) -> Iterator[MessageFormat]:
 
 def message_of(message: Any, path: str) -> MessageFormat:
     """Returns the message format for a cantools message."""
-    # The signals of a container are in PDUs, and each frame determines where its PDUs are.
+    # The signals of a container message are in PDUs. Each frame determines the positions of its PDUs.
     signals = [] if getattr(message, "is_container", False) else message.signals
 
     def unpack(data: bytes) -> dict[str, Raw]:
@@ -41,7 +41,7 @@ def message_of(message: Any, path: str) -> MessageFormat:
 
 
 def attribute(message: Any, name: str) -> Any:
-    """Returns the value of a message's attribute in a DBC file; None for other files, or if the message has no such
+    """Returns an attribute of a message in a DBC file; None for other files, or if the message does not have the
     attribute."""
     attributes = getattr(message.dbc, "attributes", None) or {}
     return attributes[name].value if name in attributes else None

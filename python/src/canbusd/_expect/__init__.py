@@ -1,2 +1,2 @@
-"""Expectations: they compare the frames and states that sessions of a server or a bench received with what a test
+"""Expectations compare the frames and states that sessions on a server or a bench received with those that a test
 expects."""

@@ -13,7 +13,7 @@ T = TypeVar("T")
 
 
 class Waits(Protocol):
-    """The methods of a bench that an observer uses."""
+    """The methods of a bench that its observer calls."""
 
     def open(self, channel: str, *, fd: bool = False) -> Session:
         """Opens a session."""
@@ -28,7 +28,7 @@ class Watch:
     def __init__(self, session: Session) -> None:
         self._session, self.channel = session, session.channel
         session.call("origin 1")
-        #: The state and the error counters of the interface when the session was opened.
+        #: The state and the error counters of the interface at the time when the session was opened.
         self.first = session.status()
 
     def error_counters(self) -> ErrorCounters:
@@ -40,7 +40,7 @@ class Watch:
         return self._session.stats()
 
     def rules_left(self) -> int:
-        """Returns the number of fault rules of the bus that are not used up."""
+        """Returns how many fault rules of the bus are not used up."""
         return self._session.rules_left()
 
     def end_rules(self) -> None:
@@ -56,18 +56,18 @@ class Watch:
         self._session.up(self._moment())
 
     def _moment(self) -> Optional[float]:
-        """Returns the current time of a bench without a bit rate. For a bench with a bit rate, returns None, because
-        the bench has set its own time."""
+        """Returns the current time of a bench without a bit rate. Returns None for a bench with a bit rate, because
+        such a bench sets its own time."""
         bench = self._session._bench
         return bench.now if bench._rates is None else None
 
     def hand_on(self, add: Callable[[str, str], None]) -> None:
-        """Passes the received frames to the function `add`, as messages of the protocol."""
+        """Passes the received frames to the function `add`, as protocol messages."""
         for message in self._session.handed_over():
             add(self.channel, f"< {message}")
 
     def close(self) -> None:
-        """Does nothing, because the bench ends its own sessions."""
+        """Does nothing. The bench ends its own sessions."""
 
 
 class BenchObserver(Observer):
@@ -83,7 +83,7 @@ class BenchObserver(Observer):
         return Watch(self._bench.open(name, fd=True))
 
     def _begin_reading(self) -> None:
-        """Starts no thread, because a bench delivers frames only when the session asks for them."""
+        """Does not start a thread, because a bench delivers frames only when a session requests them."""
 
     def settle(self) -> None:
         self._gather()

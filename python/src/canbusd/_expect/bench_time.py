@@ -1,5 +1,5 @@
-"""The time of a bench, which advances while a test waits: the bench makes attempts, and rest buses send frames that are
-due."""
+"""The time of a bench. It advances while a test waits: the bench makes attempts, and rest buses send the frames that
+are due."""
 
 import contextlib
 import threading
@@ -21,14 +21,16 @@ if TYPE_CHECKING:
 
 T = TypeVar("T")
 MICROS = 1_000_000
-#: After an attempt, a queued frame begins within this many bits. Every frame is longer, so only one frame begins.
+#: After an attempt, a queued frame begins within this many bit times. Every frame is longer, so only one frame can
+#: begin.
 SOON = 30
-#: If a bench without a bit rate has made this many attempts at one time, frames are assumed to remain queued forever.
+#: If a bench without a bit rate has made this many attempts at the same time, it is assumed that frames will always be
+#: queued.
 MOST_AT_ONCE = 100_000
 
 
 class Due(Protocol):
-    """A sender whose frames are due at certain times. The times are in microseconds."""
+    """A sender of frames that are due at certain times. All times are in microseconds."""
 
     def first_due(self) -> Optional[int]:
         """Returns the time at which the next frame is due; None if no frame is due."""
@@ -38,7 +40,7 @@ class Due(Protocol):
 
 
 class PassesTime(Expectations):
-    """The expectations of a bench and the sessions that they use, like those of a server."""
+    """The expectations of a bench, and the sessions that they use. The methods are the same as for a server."""
 
     names: tuple[str, ...]
     _rates: Optional[Rates]
@@ -49,9 +51,9 @@ class PassesTime(Expectations):
     def __init__(self, observe: Union[str, Sequence[str], None]) -> None:
         self._observed = observed_of(observe, [self.names], lambda name: self._named(name, "observe"))
         self._observer: Optional[BenchObserver] = None
-        #: The number of the package's own sessions, if they were opened before all others.
+        #: How many of the sessions belong to the package itself, if these were opened before all others.
         self._own_sessions = 0
-        # The senders whose frames are due at certain times, and the time in microseconds that waiting calls have
+        # The senders of frames that are due at certain times, and the time in microseconds that waiting calls have
         # reached.
         self._due: list[Due] = []
         self._reached = 0
@@ -70,8 +72,8 @@ class PassesTime(Expectations):
 
     @property
     def now(self) -> float:
-        """The current time in seconds: the time of the last attempt, or the time that a wait has reached if that is
-        later."""
+        """The current time in seconds: the time of the last attempt, or the time that a waiting call has reached if
+        that is later."""
         return self._now / MICROS
 
     @property
@@ -79,8 +81,8 @@ class PassesTime(Expectations):
         return max(self._reached, round(float(self._moment) * MICROS))
 
     def pass_time(self, look: Callable[[], Optional[T]], seconds: Optional[float]) -> Optional[T]:
-        """Advances time until `look` returns a result, and returns the result. Returns None after `seconds`. If
-        `seconds` is None, returns None when no more frames can be sent."""
+        """Advances the time until `look` returns a result, and returns the result. Returns None after `seconds`
+        seconds. If `seconds` is None, returns None when no more frames can be sent."""
         if seconds is not None:
             check_within(seconds, "timeout")
         with self._turn:
@@ -100,8 +102,8 @@ class PassesTime(Expectations):
                 raise RuntimeError(f"frames still wait after {MOST_AT_ONCE} attempts at one moment")
 
     def _step(self, end: Optional[int]) -> bool:
-        """Makes the next attempt, or advances to the next time at which frames are due, but not beyond `end`. Returns
-        whether there was either."""
+        """Makes the next attempt, or advances to the time at which the next frames are due, but not beyond `end`.
+        Returns whether it did either."""
         moments = [(moment, one) for one in self._due for moment in [one.first_due()] if moment is not None]
         first = min((moment for moment, _ in moments), default=None)
         if first is not None and first <= self._now and (end is None or first < end):
@@ -126,7 +128,7 @@ class PassesTime(Expectations):
         return bool(attempts)
 
     def _attempt_now(self) -> Optional[Attempt]:
-        """Makes an attempt at the current time, on a bench without a bit rate."""
+        """Makes an attempt at the current time. The bench has no bit rate."""
         raise NotImplementedError
 
     def _go_to(self, moment: int) -> None:
@@ -145,8 +147,8 @@ class PassesTime(Expectations):
         return attempts
 
     def wait(self, seconds: float) -> None:
-        """Lets this many seconds pass on the bus. Meanwhile, the bench makes attempts, and senders send the frames that
-        are due."""
+        """Lets this much time pass on the bus, in seconds. In the meantime, the bench makes attempts, and rest buses
+        send the frames that are due."""
         check_within(seconds, "seconds")
         self.pass_time(lambda: None, seconds)
 
@@ -162,7 +164,7 @@ class PassesTime(Expectations):
         return self._observer
 
     def step(self, title: str) -> "contextlib.AbstractContextManager[None]":
-        """Marks a step of the test for the test's report. The step has the time of the bench."""
+        """Marks a step of the test in the test's report, with the time of the bench."""
         return step(title, now=lambda: self.now)
 
     def expect_from_now(self) -> None:
@@ -174,7 +176,7 @@ class PassesTime(Expectations):
         raise NotImplementedError
 
     def rules_left(self, interface: Optional[str] = None) -> int:
-        """Returns the number of fault rules of the bus that are not used up. Rules without a limit are included."""
+        """Returns how many fault rules of the bus are not used up. Rules without a limit are included."""
         return self._observing().session(self._named(interface)).rules_left()
 
     def end_rules(self, interface: Optional[str] = None) -> None:
@@ -182,7 +184,8 @@ class PassesTime(Expectations):
         self._observing().session(self._named(interface)).end_rules()
 
     def _named(self, interface: Optional[str], what: str = "interface") -> str:
-        """Returns the given interface; the first interface if None. Raises ValueError if the bus has no such interface."""
+        """Returns this interface, or the first interface if it is None. Raises ValueError if the bus has no such
+        interface."""
         if interface is not None and interface not in self.names:
             raise ValueError(f"{what} is an interface of the bench, one of {', '.join(self.names)}, not {interface!r}")
         return interface or self.names[0]

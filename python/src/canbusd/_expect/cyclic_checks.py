@@ -1,4 +1,4 @@
-"""Checks of received frames: their timing, their order, and whether values change. Times are in microseconds."""
+"""Checks for received frames: their timing, their order, and whether values change. Times are in microseconds."""
 
 from collections.abc import Callable, Iterable, Sequence
 from typing import NamedTuple, Optional
@@ -8,7 +8,7 @@ from canbusd._expect.received_frames import Seen
 
 
 class Gap(NamedTuple):
-    """The time between two successive frames of a cyclic message. `number` is the number of the second frame."""
+    """The time between two successive frames of a cyclic message. `number` is the index of the second frame."""
 
     number: int
     begin: int
@@ -26,41 +26,41 @@ def gaps_of(moments: Sequence[int]) -> list[Gap]:
 
 
 def wrong_gaps(gaps: Iterable[Gap], period: int, tolerance: int) -> list[Gap]:
-    """Returns the gaps that differ from the period by more than the tolerance."""
+    """Returns the gaps whose length differs from the period by more than the tolerance."""
     return [gap for gap in gaps if abs(gap.length - period) > tolerance]
 
 
 def gap_words(gap: Gap, period: int) -> str:
-    """Returns a text that says how wrong a gap is: `gap 3: 0.152000 s, 0.052000 too long, from (..) to (..)`."""
+    """Returns a description of a wrong gap: `gap 3: 0.152000 s, 0.052000 too long, from (..) to (..)`."""
     wrong = gap.length - period
     kind = "long" if wrong > 0 else "short"
     return f"gap {gap.number}: {seconds(gap.length)} s, {seconds(abs(wrong))} too {kind}, {span(gap.begin, gap.end)}"
 
 
 def span(begin: int, end: int) -> str:
-    """Returns a start and an end time as text, with the timestamps spelled as in a log."""
+    """Returns a string with a start and an end time, formatted like the timestamps of a log."""
     return f"from ({begin / 1e6:017.6f}) to ({end / 1e6:017.6f})"
 
 
 def seconds(micros: int) -> str:
-    """Returns a number of microseconds as text in seconds."""
+    """Formats a number of microseconds as seconds."""
     return f"{micros // 1_000_000}.{micros % 1_000_000:06}"
 
 
 class Followed(NamedTuple):
-    """The part of an expected sequence that was found."""
+    """The frames that were found for an expected sequence."""
 
-    #: The frames that were found for the first steps of the sequence.
+    #: The frames for the first steps of the sequence, up to the first step that was not found.
     found: list[Seen]
-    #: The first frame that is not allowed between the steps; None if there is none.
+    #: The first frame between the steps that is not allowed there; None if there is none.
     intruder: Optional[Seen] = None
 
 
 def follow(frames: Iterable[Seen], steps: Sequence[Wanted], between: Optional[Sequence[Wanted]]) -> Followed:
-    """Finds a frame for each step in order, up to the first frame that is not allowed between the steps.
+    """Finds a frame for each step in order. Stops at the first frame that is not allowed between the steps.
 
-    Before the first step, any frame is allowed. After the first step, only frames in `between` are allowed, or all
-    frames if `between` is None. Error message frames are always allowed.
+    Before the first step, any frame is allowed. After the first step, only frames that match `between` are allowed, or
+    all frames if `between` is None. Error message frames are always allowed.
     """
     found: list[Seen] = []
     for seen in frames:
@@ -75,7 +75,7 @@ def follow(frames: Iterable[Seen], steps: Sequence[Wanted], between: Optional[Se
 
 
 class Change(NamedTuple):
-    """A change of values: the values of the previous frame, and the different values of this frame."""
+    """A change of values: the old values, the new values, and the frame with the new values."""
 
     before: object
     after: object
@@ -85,8 +85,8 @@ class Change(NamedTuple):
 def first_change(
     before: Optional[object], frames: Iterable[Seen], content: Callable[[Seen], Optional[object]]
 ) -> Optional[Change]:
-    """Returns the first change of the values in these frames. `before` are the values of an earlier frame; None means
-    no values."""
+    """Returns the first change of values in these frames. `before` are the values of an earlier frame; None if there is
+    none."""
     for seen in frames:
         now = content(seen)
         if now is not None and before is not None and now != before:
@@ -96,8 +96,8 @@ def first_change(
 
 
 def may_change(before: Optional[object], content: Callable[[Seen], Optional[object]]) -> Callable[[Seen], bool]:
-    """Returns a function that is called with one frame after another. It reports whether the frame may be a change,
-    which is true if its value differs from the first value."""
+    """Returns a function that is called with each frame in turn. It returns true if the frame may be a change, because
+    its value differs from the first value."""
     first = [] if before is None else [before]
 
     def may_be(seen: Seen) -> bool:

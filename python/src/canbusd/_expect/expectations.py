@@ -1,12 +1,12 @@
-"""Expectations of a running server: the states of its interfaces, and the frames that they receive.
+"""Expectations for a running server: the states of its interfaces, and the frames that they receive.
 
     with Server("ecu,tester") as server:
         ...
         server.expect(id=0x123, within=1.0)
         server.expect_state("ecu", "off")
 
-An expectation checks only messages that sessions have received since the last expectation; it does not poll.
-`Server.attempts` returns each attempt, also failed attempts and why they failed.
+An expectation only checks messages that sessions have received since the last expectation; it does not poll.
+`Server.attempts` returns all attempts, including failed ones with the reason of the failure.
 """
 
 import contextlib
@@ -32,15 +32,15 @@ if TYPE_CHECKING:
 
     from canbusd._expect.observer import Observer, Watching
 
-#: An interface is bus off from a transmit error count of OFF on. Each destroyed frame adds DESTROYED to the count.
+#: An interface is bus off if its transmit error count is at least OFF. Each destroyed frame adds DESTROYED to the
+#: count.
 OFF, DESTROYED = 256, 8
 
 T = TypeVar("T")
 
 
 def wait_for(predicate: Callable[[], T], timeout: float) -> Optional[T]:
-    """Calls the predicate until its result is true, and returns the result; None if it is not true within `timeout`
-    seconds."""
+    """Calls the predicate until its result is true, and returns the result. Returns None after `timeout` seconds."""
     if not callable(predicate):
         raise ValueError(f"predicate is a function that is called until it is true, as lambda: .., not {predicate!r}")
     check_within(timeout, "timeout")
@@ -57,10 +57,10 @@ def wait_for(predicate: Callable[[], T], timeout: float) -> Optional[T]:
 
 
 class Expectations(Supervision):
-    """The base class of Server for expectations."""
+    """The base class for the expectations of a Server or a Bench."""
 
     def _observing(self) -> "Observer":
-        """Returns the observer of the server."""
+        """Returns the observer."""
         raise NotImplementedError
 
     def inject(self, faults: Script, interface: Optional[str] = None) -> None:
@@ -68,16 +68,15 @@ class Expectations(Supervision):
         raise NotImplementedError
 
     def _shown(self, signals: Sequence[str] = ()) -> str:
-        """Returns the last frames that the test received, as the last part of an error text."""
+        """Returns the last frames that the test received, as the end of an error message."""
         return self._observing().shown(self.database, signals)
 
     def _wait(self, predicate: Callable[[], T], timeout: float) -> Optional[T]:
-        """Calls the predicate until its result is true, and returns the result; None if it is not true within `timeout`
-        seconds."""
+        """Calls the predicate until its result is true, and returns the result. Returns None after `timeout` seconds."""
         return wait_for(predicate, timeout)
 
     def step(self, title: str) -> "contextlib.AbstractContextManager[None]":
-        """Marks a step of the test for the test's report: ``with server.step("the ECU wakes"): ..``."""
+        """Marks a step of the test in the test's report: ``with server.step("the ECU wakes"): ..``."""
         return step(title)
 
     @explained("values are a dict, such as frame('EngineData', {'EngineSpeed': 800})")
@@ -90,7 +89,8 @@ class Expectations(Supervision):
         is_fd: bool = False,
     ) -> Frame:
         """Returns a frame to send. The arguments are an identifier and data bytes, or the name of a message in the
-        database and its signal values. An identifier above 7FF has 29 bits; `is_extended_id` overrides this."""
+        database and its signal values. An identifier above 7FF is a 29-bit identifier; `is_extended_id` overrides this.
+        """
         if isinstance(id, str):
             message, _ = identifier(id, self.database)
             assert message is not None and self.database is not None
@@ -116,31 +116,31 @@ class Expectations(Supervision):
 
     @explained()
     def down(self, name: str) -> None:
-        """Takes an interface off the bus, as `ip link set can0 down` does. The frames in its transmit queue are lost.
+        """Takes an interface off the bus, like `ip link set can0 down`. The frames in its transmit queue are lost.
 
-        Until `up` is called, the interface sends, accepts and acknowledges nothing, and a send is refused with
+        Until `up` is called, the interface sends, accepts and acknowledges nothing, and attempts to send fail with
         `interface down`. Its sockets stay open. If the interface is already down, nothing changes. The next
         `expect_state` ignores earlier states.
         """
         observer = self._observing()
         observer.session(name).down()
-        # No error message frame reports that an interface is down.
+        # No error message frame reports that the interface is down.
         observer.came_into(name, "down")
 
     @explained()
     def up(self, name: str) -> None:
-        """Brings an interface up, or restarts it after bus off. Both error counters are then 0. The interface may
-        already be up."""
+        """Brings an interface up, or restarts it after bus off. Both error counters are then 0. It is not an error if
+        the interface is already up."""
         self._observing().session(name).up()
 
     @explained()
     def bus_off(self, name: str, timeout: float = 5.0) -> ErrorCounters:
-        """Drives an interface bus off, whatever other interfaces send. Returns when the interface is bus off.
+        """Forces an interface into bus off, whatever other interfaces send. Returns when the interface is bus off.
 
         This call injects a rule that destroys the next attempts of the interface, 32 if it had no errors before. So the
-        interface must send frames. Raises AssertionError if the interface is not bus off after `timeout` seconds, and
-        then ends the rule. If the bus has other rules, which would end too, the rule is kept, and the error says so.
-        The error also says if the interface sent nothing.
+        interface must send frames. Raises AssertionError if the interface is not bus off after `timeout` seconds. In
+        this case the rule is ended, unless the bus has other rules, which would end too. The error says if the rule was
+        kept, or if the interface sent nothing.
         """
         __tracebackhide__ = True
         check_within(timeout, "timeout")
@@ -150,7 +150,7 @@ class Expectations(Supervision):
             counters = self._wait(drive.off, timeout)
             if counters is None:
                 raise AssertionError(f"{drive.failure(timeout)}{self._shown()}")
-            # An interface that restarts automatically may be active again.
+            # An interface that restarts automatically may already be active again.
             was = observer.skip_to_state(name, "off")
             return was.counters if was is not None and counters.state != "off" else counters
         finally:
@@ -168,7 +168,7 @@ class Expectations(Supervision):
 
     @explained()
     def wait(self, seconds: float) -> None:
-        """Lets this many seconds pass on the bus."""
+        """Lets `seconds` seconds pass on the bus."""
         check_within(seconds, "seconds")
         time.sleep(seconds)
 
@@ -200,8 +200,8 @@ class Expectations(Supervision):
         `Engine.EngineSpeed`. The frame must contain this signal, and its value must meet the limits `above`, `below`,
         `equals` and `between` (a range). All frames after the frame of the last expectation are checked; with a
         `channel`, only the frames that this interface received. A frame that several interfaces received counts once.
-        An identifier above 7FF has 29 bits; `is_extended_id` overrides this. Raises AssertionError if no such frame
-        arrives in time; its text ends with the received frames.
+        An identifier above 7FF is a 29-bit identifier; `is_extended_id` overrides this. Raises AssertionError if no
+        such frame arrives in time; the error lists the last received frames.
         """
         __tracebackhide__ = True
         wanted = self._wanted(
@@ -257,14 +257,14 @@ class Expectations(Supervision):
 
     @explained()
     def expect_state(self, name: str, state: State, *, within: float = 1.0) -> ErrorCounters:
-        """Returns when an interface is in this state, or if it was in this state at any time since the last expected
-        state.
+        """Waits until an interface is in this state. Returns immediately if it was in this state at any time since the
+        last expected state.
 
-        The states come from the error message frames that the interface received. No such frame reports `down`, so the
-        interface must be down while this call is polling. Raises AssertionError if the interface does not reach the
-        state within `within` seconds; the error lists its states. Returns the current error counters if the interface
-        is still in this state, else the counters when it entered the state. In this case the receive counter at bus off
-        is not known, and is given as 0.
+        The states come from the error message frames that the interface received. These frames do not report `down`, so
+        for this state the call polls, and the interface must still be down. Raises AssertionError if the interface does
+        not reach the state within `within` seconds; the error lists its states. Returns the current error counters if
+        the interface is still in this state, else the counters when it entered the state. In the latter case, the
+        receive error counter at bus off is unknown and returned as 0.
         """
         __tracebackhide__ = True
         if state not in STATES:
@@ -285,34 +285,35 @@ class Expectations(Supervision):
 
 
 class Drive:
-    """Destroys the next frames of an interface until it is bus off, but no frames after that."""
+    """Destroys the frames of an interface until it is bus off, and no frames after that."""
 
     def __init__(self, bus: "Watching", name: str, inject: Callable[[Faults, str], None]) -> None:
         self._bus, self._name, self._inject = bus, name, inject
         self._counters, self._stats = bus.error_counters(), bus.stats()
-        # The number of other rules, and how many frames the interface had sent, when the last rule was injected; else
-        # None.
+        # At the last injection of a rule: how many other rules there were, and how many frames the interface had sent.
+        # None before the first injection.
         self._injected: Optional[tuple[int, int]] = None
 
     def off(self) -> Optional[ErrorCounters]:
-        """Returns the error counters of the interface when it is bus off, or was bus off and has restarted
-        automatically; else None."""
+        """Returns the error counters of the interface if it is bus off, or was bus off and has restarted automatically;
+        otherwise None."""
         left = self._bus.rules_left()
         counters, stats = self._bus.error_counters(), self._bus.stats()
         if counters.state == "off":
             return counters
         if stats.lost > self._stats.lost and counters.state != "down":
-            # The interface went bus off after `counters` was read.
+            # The interface went bus off after `counters` were read.
             return self._bus.error_counters()
         if self._injected is None or (left <= self._injected[0] and stats.done > self._injected[1]):
-            # Injects the first rule, or another rule if frames that were not destroyed have lowered the error count.
+            # Injects the first rule. Injects another rule if frames that were not destroyed have lowered the error
+            # count.
             missing = -(-(OFF - counters.tec) // DESTROYED)
             self._inject(Faults().next(missing, sender=self._name).destroyed(), self._name)
             self._injected = left, stats.done
         return None
 
     def failure(self, timeout: float) -> str:
-        """Returns a text that says why the interface is not bus off after `timeout` seconds."""
+        """Returns an error message that says why the interface is not bus off after `timeout` seconds."""
         counters, stats = self._bus.error_counters(), self._bus.stats()
         now, left = in_words(self._name, counters), self._bus.rules_left()
         is_kept = left and not self._is_only(left)
@@ -320,12 +321,13 @@ class Drive:
         return f"{now}, and did not go bus off within {seconds_words(timeout)}: {self._reason(counters, stats)}{others}"
 
     def end_rule(self) -> None:
-        """Ends the injected rule if it is the only rule of the bus, because a bus can only end all its rules together."""
+        """Ends the injected rule if it is the only rule of the bus, because the rules of a bus can only be ended
+        together."""
         if self._is_only(self._bus.rules_left()):
             self._bus.end_rules()
 
     def _is_only(self, left: int) -> bool:
-        """Returns whether the injected rule is the only rule of the bus. `left` is the number of rules of the bus."""
+        """Returns whether the injected rule is the only rule of the bus. `left` is how many rules the bus has."""
         return left == 1 and self._injected is not None and self._injected[0] == 0
 
     def _reason(self, counters: ErrorCounters, stats: Stats) -> str:

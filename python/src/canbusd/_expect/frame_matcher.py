@@ -1,4 +1,5 @@
-"""The frame that a test expects, given by its fields, its message's name or a signal, and its description in words."""
+"""The frame that a test expects, given by its fields, the name of its message or a signal; and a description of the
+frame in words."""
 
 import difflib
 import functools
@@ -13,16 +14,16 @@ from canbusd._text import times
 from canbusd.frames import FD_LENGTHS, Frame, data_bytes
 from canbusd.signals import Database, DatabaseError, Value
 
-#: The arguments that describe a frame in a step of a sequence.
+#: The arguments that can describe a frame in a step of a sequence.
 OF_STEP = ("id", "data", "signal", "above", "below", "equals", "between", "is_extended_id", "is_error_frame")
-#: An expected frame in a sequence: an identifier, the name of a message, or a dict with the arguments of `expect`.
+#: An expected frame in a sequence: an identifier, the name of a message, or a dict with arguments of `expect`.
 Step = Union[int, str, Mapping[str, Any]]
 
-# Identifiers below this number have 11 bits by default.
+# Identifiers below this value have 11 bits by default.
 LEAST_EXTENDED = 0x800
 MOST_IDENTIFIER = 0x1FFFFFFF
 NO_DATABASE = "names of messages and signals need a database: give the server database='car.dbc', or a rest bus"
-# The maximum number of names to suggest for an unknown signal.
+# The maximum number of names that are suggested for an unknown signal.
 MOST_NAMED = 12
 
 
@@ -30,10 +31,10 @@ class Wanted:
     """An expected frame. `matches` checks a frame, and `str()` describes the expected frame in words: `frame 123 with
     data 11 22`.
 
-    If an argument is None, it matches anything. `id` is an identifier or the name of a message. An identifier above 7FF
-    has 29 bits; `is_extended_id` overrides this. A `signal` is named `EngineSpeed`, or `Engine.EngineSpeed` with its
-    message. Its value must meet each given limit: `above`, `below`, `equals` and `between` (a range). `channel` only
-    appears in the description. Raises ValueError if no frame can match.
+    An argument that is None matches anything. `id` is an identifier or the name of a message. An identifier above 7FF
+    is a 29-bit identifier; `is_extended_id` overrides this. A `signal` is given as `EngineSpeed`, or as
+    `Engine.EngineSpeed` with the name of its message. Its value must meet each given limit: `above`, `below`, `equals`
+    and `between` (a range). `channel` only appears in the description. Raises ValueError if no frame can match.
     """
 
     def __init__(
@@ -55,7 +56,7 @@ class Wanted:
         self._is_error, self._channel, self._asked_extended = is_error_frame, channel, is_extended_id
         self._id, is_extended = identifier(id, database)
         check_identifier(self._id, is_extended if self._name else None, is_extended_id, is_error_frame)
-        # For an error message frame, `id` is an error class, which has neither 11 nor 29 bits.
+        # For an error message frame, `id` is an error class, not an 11-bit or 29-bit identifier.
         has_bits = not is_error_frame or bool(self._name)
         self._is_extended = is_extended if is_extended_id is None and has_bits else is_extended_id
         self._data = None if data is None else checked_data(data)
@@ -77,7 +78,7 @@ class Wanted:
         return value is not None and all(CONDITIONS[name](value, limit) for name, limit in self._conditions.items())
 
     def is_of(self, frame: Frame) -> bool:
-        """Returns whether a frame has the expected identifier. Its data is not checked."""
+        """Returns whether a frame has the expected identifier. The data of the frame is not checked."""
         return self._is_same_number(frame) and (self._is_extended is None or frame.is_extended_id == self._is_extended)
 
     def _is_same_number(self, frame: Frame) -> bool:
@@ -90,12 +91,12 @@ class Wanted:
 
     @property
     def has_content(self) -> bool:
-        """Whether a signal is expected, or an identifier with certain data, so that the content of frames matters."""
+        """Whether the content of frames matters, because a signal is expected, or an identifier with certain data."""
         return self._signal is not None or (self._id is not None and self._data is not None)
 
     def content(self, frame: Frame) -> Optional[object]:
-        """Returns the part of a frame that is compared: the value of the signal if a signal is expected, else the data.
-        Returns None if the frame is a different one."""
+        """Returns the part of a frame that is compared: the value of the signal if a signal is expected, otherwise the
+        data. Returns None if the frame is not the expected frame."""
         if not self.is_of(frame):
             return None
         if self._signal is not None:
@@ -103,12 +104,12 @@ class Wanted:
         return f"#R{frame.dlc}" if frame.is_remote_frame else frame.data.hex(" ").upper() or "no byte"
 
     def hint(self, frame: Frame) -> str:
-        """Returns a hint if a frame has the expected number, but 29 instead of 11 identifier bits or vice versa; else
-        the empty string."""
+        """Returns a hint if a frame has the expected identifier value, but as a 29-bit instead of an 11-bit identifier
+        or vice versa. Otherwise returns the empty string."""
         if self._id is None or self.is_of(frame) or not self._is_same_number(frame):
             return ""
         digits, bits = (f"{self._id:08X}", 29) if frame.is_extended_id else (f"{self._id:03X}", 11)
-        # If the message is given by name, the database determines whether its identifier has 11 or 29 bits.
+        # If the message is given by name, the database defines whether its identifier has 11 or 29 bits.
         expected = "" if self._name else f", or expect is_extended_id={frame.is_extended_id}"
         return f"{digits} with {bits} bits came: give can.Message is_extended_id={not frame.is_extended_id}{expected}"
 
@@ -133,7 +134,7 @@ class Wanted:
 
 
 def checked_data(data: object) -> bytes:
-    """Returns the expected data of a frame as bytes. Raises ValueError if no frame can have this data."""
+    """Returns the expected data of a frame as bytes. Raises ValueError if a frame can't have this data."""
     found = data_bytes(data)
     if len(found) not in FD_LENGTHS:
         raise ValueError(
@@ -143,8 +144,8 @@ def checked_data(data: object) -> bytes:
 
 
 def identifier(id: Union[int, str, None], database: Optional[Database]) -> tuple[Optional[int], Optional[bool]]:
-    """Returns the given identifier, or the identifier of the message with this name and whether it has 29 bits. Raises
-    ValueError if `id` is neither."""
+    """Returns an identifier, and whether it has 29 bits. `id` is an identifier or the name of a message; None returns
+    None for both. Raises ValueError for any other value."""
     if id is None:
         return None, None
     if isinstance(id, str):
@@ -161,8 +162,8 @@ def identifier(id: Union[int, str, None], database: Optional[Database]) -> tuple
 
 
 def check_identifier(id: Optional[int], has: Optional[bool], is_extended_id: Optional[bool], is_error: bool) -> None:
-    """Raises ValueError if no frame has this identifier. `has` says whether the identifier of the named message has 29
-    bits."""
+    """Raises ValueError if a frame can't have this identifier. `has` says whether the identifier of the named message
+    has 29 bits."""
     if id is None:
         return
     if not 0 <= id <= MOST_IDENTIFIER:
@@ -174,15 +175,15 @@ def check_identifier(id: Optional[int], has: Optional[bool], is_extended_id: Opt
 
 
 def digits_in(text: str) -> str:
-    """Returns the hexadecimal digits of a text that is spelled like an identifier, 101 or 0x101; the empty string for
-    any other text."""
+    """Returns the hexadecimal digits of a string that looks like an identifier, such as 101 or 0x101; the empty string
+    for any other string."""
     found = re.fullmatch("(?:0[xX])?([0-9A-Fa-f]+)", text)
     return found[1] if found else ""
 
 
 class SignalOf:
-    """A signal of a database, named `EngineSpeed` or `Engine.EngineSpeed`. If an identifier is given, the signal is in
-    messages with this identifier."""
+    """A signal in a database, given as `EngineSpeed` or `Engine.EngineSpeed`. If an identifier is given, only messages
+    with this identifier are considered."""
 
     def __init__(
         self, name: str, database: Optional[Database], id: Optional[int] = None, is_extended: Optional[bool] = None
@@ -198,10 +199,10 @@ class SignalOf:
         if not found:
             where = f"message {self._message}" if self._message else "any message"
             raise DatabaseError(f"{id:X} is not the identifier of {where} of the database", signal=name)
-        #: The formats of the signal, one for each message of the database that has the signal.
+        #: The formats of the signal, one for each message in the database that contains the signal.
         self.formats = formats_of(self.own_name, found, is_bare=not self._message and id is None)
         self._id = found[0].identifier if self._message else None
-        # Cyclic messages often have the same data as before, and the decoding libraries are slow.
+        # The results are cached, because cyclic messages often repeat their data and the decoding libraries are slow.
         self._decoded = functools.lru_cache(maxsize=4096)(database.decode)
 
     def value(self, frame: Frame) -> Optional[Value]:
@@ -216,9 +217,9 @@ class SignalOf:
 
 def formats_of(name: str, messages: Sequence[MessageFormat], is_bare: bool) -> list[SignalFormat]:
     """Returns the formats of a signal in these messages. Raises DatabaseError with a list of the existing signals,
-    beginning with similar names.
+    similar names first.
 
-    `is_bare` is true if neither the name nor an identifier determines the message.
+    `is_bare` is true if neither the name nor an identifier selects a message.
     """
     if not is_bare:
         return [message.signal(name) for message in messages]

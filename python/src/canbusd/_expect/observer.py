@@ -1,4 +1,4 @@
-"""The sessions that receive frames and states from a server for a test's expectations; see canbusd.expectations."""
+"""The sessions that receive frames and states from a server for the expectations of a test."""
 
 import contextlib
 import threading
@@ -21,17 +21,18 @@ from canbusd.signals import Database
 
 T = TypeVar("T")
 
-# If `observe` is None and a server has at most this many interfaces, all are observed. If it has more, only the first
-# interface of each bus is observed, because each observed interface adds an entry to the record for each frame.
+# If `observe` is None and a server has at most this many interfaces, all of them are observed. If it has more, only the
+# first interface of each bus is observed, because every observed interface adds an entry to the record for each frame.
 MOST_OBSERVED = 8
-# If a server has at most this many interfaces, each has a session from the start, at least to receive its states. A
-# server can have 64 sessions.
+# If a server has at most this many interfaces, a session is opened on each of them at the start, at least to receive
+# its states. A server supports 64 sessions.
 MOST_WITH_STATES = 16
-# While no expectation is waiting, a session keeps up to this many frames unread. If there are more, the reader
-# processes FRAMES_AT_ONCE of them, and then pauses so that other threads can run, such as the thread of a rest bus.
+# While no expectation is waiting, a session stores up to MOST_UNREAD_FRAMES unprocessed frames. If there are more, the
+# reader processes FRAMES_AT_ONCE of them, and then pauses so that other threads can run, such as the thread of a rest
+# bus.
 MOST_UNREAD_FRAMES, FRAMES_AT_ONCE, PAUSE_SECONDS = 20_000, 16, 0.0001
 
-#: How many earlier frames are searched to find out whether a missing frame has arrived before.
+#: How many earlier frames are searched to find out whether an expected frame has already arrived.
 MOST_TAKEN = 10_000
 IN_ORDER = (
     "expectations look after the frame that the last one returned: expect frames in their order, or by expect_sequence"
@@ -39,8 +40,8 @@ IN_ORDER = (
 
 
 def decoded_words(frame: Frame, database: Optional[Database], signals: Sequence[str]) -> str:
-    """Returns the name of a frame's message and the values of these signals, as text; the empty string if the database
-    does not know the frame."""
+    """Returns the name of a frame's message and the values of these signals, as a string; the empty string if the
+    database does not contain the frame."""
     decoded = None if database is None else database.decode(frame)
     if decoded is None:
         return ""
@@ -57,8 +58,8 @@ def observed_by_default(buses: Sequence[Sequence[str]]) -> list[str]:
 def observed_of(
     observe: Union[str, Sequence[str], None], buses: Sequence[Sequence[str]], check: Callable[[str], object]
 ) -> list[str]:
-    """Returns the interfaces in the argument `observe`; by default those of `observed_by_default`. `check` raises
-    ValueError for an unknown interface."""
+    """Returns the interfaces in the argument `observe`; by default those that `observed_by_default` returns. The
+    function `check` raises ValueError for an unknown interface."""
     if observe is None:
         return observed_by_default(buses)
     if not isinstance(observe, Iterable):
@@ -82,7 +83,7 @@ class Watching(Protocol):
         """Returns the counts of the session and its interface."""
 
     def rules_left(self) -> int:
-        """Returns the number of fault rules of the bus that are not used up."""
+        """Returns how many fault rules of the bus are not used up."""
 
     def end_rules(self) -> None:
         """Ends all fault rules of the bus."""
@@ -102,13 +103,13 @@ class Watching(Protocol):
 
 class Observer:
     """The sessions that observe a server, one on each interface. If no interface is observed, a session is opened only
-    when a test asks for the state of its interface.
+    when a test queries the state of its interface.
 
     A call that waits for an expectation reads the sessions, and checks all received messages. Between such calls, a
     thread reads the sessions, so that no message is dropped while the test does something else.
     """
 
-    #: What the interfaces belong to, `server` or `bench`, for error texts.
+    #: The kind of the observed object, `server` or `bench`, for error messages.
     owner = "server"
 
     def __init__(
@@ -119,22 +120,22 @@ class Observer:
         full: Callable[[Optional[str]], str] = lambda channel: "",
     ) -> None:
         self._address = address
-        # A function that returns a note if the record of a bus is full, else the empty string.
+        # A function that returns an error message if the record of a bus is full, otherwise the empty string.
         self._full = full
         self.received = Received(buses, observed)
         self._sessions: dict[str, Watching] = {}
-        # For each observed interface, the number of frames that its socket had dropped at the last expectation.
+        # How many frames the socket on each observed interface had dropped at the last expectation.
         self._dropped: dict[str, int] = {}
         self._lock = threading.RLock()
-        #: The timestamp up to which frames are ignored by all expectations, because of `forget`.
+        #: The timestamp up to which all expectations ignore frames. It is set by `forget`.
         self._forgotten = -1
-        # The number of threads that wait for frames and read the sessions themselves.
+        # How many threads wait for frames and read the sessions themselves.
         self._waiting = 0
         self._reader: Optional[Reader] = None
         names = [name for bus in buses for name in bus]
         self._all = names
         if observed:
-            # If there are many interfaces, only the observed ones have a session from the start.
+            # If there are many interfaces, sessions are opened only on the observed ones at the start.
             for name in names if len(names) <= MOST_WITH_STATES else observed:
                 self.session(name)
             self._begin_reading()
@@ -148,7 +149,7 @@ class Observer:
         return ObservingSession(self._address, name, name in self.received.observed)
 
     def _live(self) -> list[ObservingSession]:
-        """Returns the sessions on the interfaces of a server."""
+        """Returns the sessions on a server's interfaces; see ObservingSession."""
         return [session for session in self._sessions.values() if isinstance(session, ObservingSession)]
 
     def session(self, name: str) -> Watching:
@@ -182,10 +183,10 @@ class Observer:
                 wait_for_input([session], left)
 
     def wait(self, look: Callable[[], Optional[T]], may_be: Callable[[Seen], bool], within: float) -> Optional[T]:
-        """Calls `look` until it finds a result in the received messages, and returns the result; None after `within`
-        seconds.
+        """Calls `look` until it finds a result in the received messages, and returns the result. Returns None after
+        `within` seconds.
 
-        `look` is called immediately, then after each new frame for which `may_be` is true, and at the end.
+        `look` is called immediately, after each new frame for which `may_be` returns true, and at the end.
         """
         deadline = time.monotonic() + within
         with self._waits():
@@ -198,7 +199,7 @@ class Observer:
                 self._await(may_be, arrived, deadline)
 
     def _await(self, may_be: Callable[[Seen], bool], arrived: int, deadline: float) -> None:
-        """Waits until a new frame arrives for which `may_be` is true. `arrived` is the number of frames that arrived
+        """Waits until a new frame arrives for which `may_be` returns true. `arrived` is how many frames had arrived
         before."""
         while True:
             with self._lock:
@@ -212,7 +213,7 @@ class Observer:
             self._gather()
 
     def find(self, matches: Callable[[Frame], bool], channel: Optional[str], within: float) -> Optional[Seen]:
-        """Takes the first matching frame after the last taken frame, and waits for it for `within` seconds."""
+        """Takes the first matching frame after the last taken frame. Waits up to `within` seconds for such a frame."""
         self.received.channels(channel)
 
         def look() -> Optional[Seen]:
@@ -262,45 +263,46 @@ class Observer:
             return list(self.received.untaken(channel))
 
     def contents(self, wanted: Wanted, channel: Optional[str]) -> list[object]:
-        """Returns the content of the frames since the last expectation, without successive repetitions. `wanted`
-        determines the content."""
+        """Returns the contents of the frames since the last expectation, without successive repetitions. `wanted`
+        defines which part of a frame is its content."""
         said = (wanted.content(seen.frame) for seen in self.untaken(channel))
         return [content for content, _ in groupby(content for content in said if content is not None)]
 
     def last_content(self, wanted: Wanted, channel: Optional[str]) -> Optional[object]:
-        """Returns the last content among the frames up to the last expectation. `wanted` determines the content."""
+        """Returns the last content among the frames up to the last expectation. `wanted` defines which part of a frame
+        is its content."""
         self.settle()
         with self._lock:
             said = (wanted.content(seen.frame) for seen in self.received.taken(channel))
             return next((content for content in said if content is not None), None)
 
     def last_taken(self, matches: Callable[[Frame], bool], channel: Optional[str]) -> Optional[Seen]:
-        """Returns the last matching frame among the frames up to the last expectation."""
+        """Returns the last matching frame that arrived up to the last expectation."""
         self.settle()
         with self._lock:
             return next((seen for seen in self.received.taken(channel) if matches(seen.frame)), None)
 
     def is_forgotten(self, seen: Seen) -> bool:
-        """Returns whether a frame arrived before the last call of `forget`."""
+        """Returns whether a frame was received before the last call of `forget`."""
         return seen.moment <= self._forgotten
 
     def said_instead(self, wanted: Wanted, channel: Optional[str]) -> str:
-        """Returns a note for an error text that lists the content that arrived instead of the expected content; else
-        the empty string."""
+        """Returns the part of an error message that lists the contents received instead of the expected content; the
+        empty string if there are none."""
         contents = [str(content) for content in self.contents(wanted, channel)]
         if not contents or not wanted.has_content:
             return ""
         return f": it was {', '.join(['..'] * (len(contents) > MOST_SHOWN) + contents[-MOST_SHOWN:])}"
 
     def hint(self, wanted: Wanted, channel: Optional[str]) -> str:
-        """Returns a hint if a frame arrived with the expected number, but with the other identifier length; else the
-        empty string."""
+        """Returns a hint if a frame with the expected identifier value was received, but with the other identifier
+        length; otherwise the empty string."""
         hints = (wanted.hint(seen.frame) for seen in self.untaken(channel))
         return next((f"\n{hint}" for hint in hints if hint), "")
 
     def came_before(self, wanted: Wanted, channel: Optional[str]) -> str:
-        """Returns a note for an error text if the expected frame arrived before the last expectation; else the empty
-        string."""
+        """Returns the part of an error message that says that the expected frame arrived before the last expectation;
+        the empty string if it did not."""
         with self._lock:
             taken = islice(self.received.taken(channel), MOST_TAKEN)
             before = next((seen for seen in taken if wanted.matches(seen.frame)), None)
@@ -309,8 +311,8 @@ class Observer:
         return f"\nit came earlier: {self.line(before, channel)}\n{IN_ORDER}"
 
     def find_state(self, name: str, state: str, within: float) -> Optional[StateSeen]:
-        """Returns the first time that an interface entered a state after the last expected state, or enters it within
-        `within` seconds; else None."""
+        """Returns the first time that an interface entered a state after the last expected state. Waits up to `within`
+        seconds for the state. Returns None if the interface did not enter it."""
         self.session(name)
 
         def may_be(seen: Seen) -> bool:
@@ -325,14 +327,14 @@ class Observer:
             self.settle()
         counters = self.session(name).error_counters()
         with self._lock:
-            # No error message frame reports that an interface is down.
+            # No error message frame reports that the interface is down.
             if counters.state == "down":
                 self.received.note_down(name, counters)
             return self.received.expected_state(name, state)
 
     def skip_to_state(self, name: str, state: str) -> Optional[StateSeen]:
         """Returns the last time that an interface entered this state after the last expected state; None if it did not.
-        The next expected state must come after it."""
+        The next expected state must follow it."""
         self.settle()
         with self._lock:
             found = None
@@ -354,8 +356,8 @@ class Observer:
         self._note_dropped()
 
     def missed(self, channel: Optional[str]) -> str:
-        """Returns a note for an error text with the number of lost frames since the last expectation; the empty string
-        if no frames were lost."""
+        """Returns the part of an error message that says how many frames were lost since the last expectation; the
+        empty string if none were lost."""
         texts = []
         for name in self.received.channels(channel):
             dropped = self._sessions[name].stats().dropped - self._dropped.get(name, 0)
@@ -369,14 +371,14 @@ class Observer:
         return f": {', and '.join(texts)}" if texts else ""
 
     def _note_dropped(self) -> None:
-        """Makes the next expectation ignore the frames that were dropped so far."""
+        """Makes the next expectation ignore the frames that have been dropped so far."""
         for name in self.received.observed:
             self._dropped[name] = self._sessions[name].stats().dropped
 
     def shown(self, database: Optional[Database] = None, signals: Sequence[str] = ()) -> str:
-        """Returns the last received frames, as lines of a log, and the states of the interfaces, for an error text.
+        """Returns the last received frames as lines of a log, and the states of the interfaces, for an error message.
 
-        If a database is given, each line also has the name of the frame's message and the values of these signals.
+        If a database is given, each line also contains the name of the frame's message and the values of these signals.
         """
         observed = self.received.observed
         if not observed:
@@ -396,13 +398,12 @@ class Observer:
         return "\n".join([*shown, *self._states()])
 
     def channel(self, seen: Seen) -> str:
-        """Returns the first interface that received a frame from another interface; the frame's sender if there is
-        none."""
+        """Returns the first interface that received a frame from another interface. Returns the frame's sender if there
+        is none."""
         return seen.channel(self.received.names_of(seen))
 
     def line(self, seen: Seen, channel: Optional[str] = None) -> str:
-        """Returns the log line of a frame as `channel` received it; without `channel`, as the first receiving interface
-        did."""
+        """Returns the log line of a frame as received by `channel`; by default, as received by the first interface."""
         return described_line(channel or self.channel(seen), seen.frame)
 
     def close(self) -> None:
@@ -413,7 +414,8 @@ class Observer:
             session.close()
 
     def _states(self) -> Iterator[str]:
-        """Yields the state and the counts of each interface that has had errors, or has queued or lost frames."""
+        """Yields a description of the state and the counts of each interface that has had errors, or has queued or lost
+        frames."""
         for name in self._all:
             try:
                 session = self.session(name)
@@ -426,7 +428,7 @@ class Observer:
 
     @contextlib.contextmanager
     def _waits(self) -> Iterator[None]:
-        """Marks that the calling thread waits and reads the sessions itself, so that the reader thread pauses."""
+        """A context manager for waiting: the calling thread reads the sessions itself, and the reader thread pauses."""
         with self._lock:
             self._waiting += 1
         try:
@@ -442,8 +444,8 @@ class Observer:
                 session.hand_on(self.received.add)
 
     def _read_along(self) -> None:
-        """Reads the received messages into the sessions, unless a thread waits for an expectation. They are processed
-        when a thread waits, or when there are many."""
+        """Reads received messages into the sessions, unless a thread waits for an expectation. The messages are
+        processed when a thread waits, or when there are many."""
         with self._lock:
             if self._waiting:
                 return
@@ -453,8 +455,8 @@ class Observer:
             time.sleep(PAUSE_SECONDS)
 
     def _hand_some_on(self) -> bool:
-        """Processes some of the oldest frames of each session that has too many unread frames. Returns whether there
-        was such a session."""
+        """Processes some of the oldest frames of each session that has too many unprocessed frames. Returns whether
+        there was such a session."""
         with self._lock:
             full = [session for session in self._live() if session.unread > MOST_UNREAD_FRAMES]
             for session in full:

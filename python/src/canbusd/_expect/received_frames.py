@@ -1,8 +1,8 @@
-"""The frames and states that a server's own sessions received. The frames of each bus are in bus order, each once.
+"""The frames and states that a server's own sessions received. Each frame is stored once, in the order on its bus.
 
-Sessions on several interfaces of a bus receive the same frame at different times. This module stores such a frame once.
-It identifies the frame by its timestamp, its text and its number at its sender, and sorts frames by timestamp. So the
-frames are in bus order, whichever session was read first.
+Sessions on several interfaces of a bus receive the same frame at different times. To store it once, this module
+identifies a frame by its timestamp, its content and its number at its sender. It sorts the frames by timestamp, so that
+their order does not depend on which session was read first.
 """
 
 from bisect import bisect_left, bisect_right
@@ -14,15 +14,15 @@ from typing import NamedTuple, Optional
 from canbusd._session.protocol import ErrorCounters, State
 from canbusd.frames import Frame, frame_of_message
 
-# The maximum number of frames stored for each bus, and the maximum number of states stored for each interface.
+# The maximum number of stored frames for each bus, and of stored states for each interface.
 MOST_KEPT, MOST_STATES = 200_000, 20_000
-# The maximum number of frames in an error text.
+# The maximum number of frames that are shown in an error message.
 MOST_SHOWN = 10
 # The classes of error message frames, and the bits of data byte 1 for class 004 (linux/can/error.h).
 CONTROLLER, BUS_OFF, RESTARTED = 0x004, 0x040, 0x100
 PASSIVE_BITS, WARNING_BITS = 0x30, 0x0C
-# An interface is bus off from this transmit error count on. The error message frame for bus off contains no error
-# counters.
+# An interface is bus off if its transmit error count is at least OFF. The error message frame for bus off does not
+# contain error counters.
 OFF = 256
 
 
@@ -37,20 +37,20 @@ class Seen:
         #: The number of the frame at its sender; the empty string if the number is not known.
         self.number = number
         self.key, self.words = key, words
-        #: For each interface that received the frame: whether that interface also sent it.
+        #: The interfaces that received the frame. The value is true if the interface also sent it.
         self.channels: dict[str, bool] = {}
         self._frame: Optional[Frame] = None
 
     @property
     def frame(self) -> Frame:
-        """The frame as an object of the class Frame."""
+        """The frame as a Frame object."""
         if self._frame is None:
             self._frame = frame_of_message(Frame, *self.words)
         return self._frame
 
     def channel(self, names: Sequence[str]) -> str:
-        """Returns the first of these interfaces that received the frame from another interface; the sender if there is
-        none."""
+        """Returns the first of these interfaces that received the frame from another interface. Returns the sender if
+        there is none."""
         seen = [name for name in names if name in self.channels]
         return next((name for name in seen if not self.channels[name]), seen[0])
 
@@ -58,8 +58,8 @@ class Seen:
 def without_copies(frames: Iterable[Seen]) -> Iterator[Seen]:
     """Yields frames without the second copies that receivers get after a fault in the last bit of the end of frame.
 
-    A second copy is the next frame of its sender, and has the same number as the first copy. So no other frame with the
-    same identifier and data is between the two copies.
+    A second copy is the next frame of its sender, and has the same number as the first copy. So there is no other frame
+    with the same identifier and data between the two copies.
     """
     numbers: dict[tuple[str, ...], str] = {}
     for seen in frames:
@@ -73,7 +73,8 @@ def without_copies(frames: Iterable[Seen]) -> Iterator[Seen]:
 class StateSeen(NamedTuple):
     """A state of an interface, and its error counters when it entered the state."""
 
-    #: The time in microseconds at which the interface entered the state; None for the state when the observation began.
+    #: The time in microseconds at which the interface entered the state; None for the state in which the interface was
+    #: when it was first observed.
     moment: Optional[int]
     counters: ErrorCounters
 
@@ -84,7 +85,8 @@ def micros(moment: str) -> int:
 
 
 def state_in(words: Sequence[str]) -> Optional[ErrorCounters]:
-    """Returns the state that a message with an error message frame reports; None if it reports no state."""
+    """Returns the state that an error message frame reports; None if it reports no state. `words` are the words of its
+    protocol message."""
     if words[0] != "error" or len(words) < 4:
         return None
     number, data = int(words[1], 16), bytes.fromhex(words[3]).ljust(8, b"\0")
@@ -105,19 +107,19 @@ class SeenBus:
         self.names = tuple(names)
         self.frames: list[Seen] = []
         self._moments: list[int] = []
-        #: The number of deleted frames, which were before the first frame in the list.
+        #: How many frames were deleted before the first frame in the list.
         self.forgotten = 0
-        # For each session, the last message that it received, and how many times in succession it received this message
+        # The last message that each session received, and how many times in succession it had received this message
         # before.
         self._last: dict[str, tuple[tuple[object, ...], int]] = {}
 
     def add(self, name: str, moment: int, words: list[str], number: str, is_own: bool) -> Optional[Seen]:
-        """Adds a message that a session on this interface received. Returns the frame if no other session had received
+        """Adds a message that a session on this interface received. Returns the frame if no other session has received
         it before."""
         owner = name if words[0] == "error" else ""
         key = moment, owner, number, *words
         last, times = self._last.get(name, (None, 0))
-        # This counts equal frames that the session received in the same microsecond.
+        # `times` distinguishes equal frames that the session received in the same microsecond.
         times = times + 1 if last == key else 0
         self._last[name] = key, times
         seen = self._known((*key, times), moment)
@@ -128,7 +130,7 @@ class SeenBus:
         return seen if is_new else None
 
     def place(self, after: int) -> int:
-        """Returns the index in `frames` of the frame with this number, counted from 0; 0 if that frame was deleted."""
+        """Converts the number of a frame, counted from 0, to its index in `frames`. Returns 0 if the frame was deleted."""
         return max(0, after - self.forgotten)
 
     def _known(self, key: tuple[object, ...], moment: int) -> Optional[Seen]:
@@ -144,7 +146,7 @@ class SeenBus:
         self.frames.insert(place, seen)
         self._moments.insert(place, seen.moment)
         if len(self.frames) > MOST_KEPT:
-            # Many frames are deleted at once, because each deletion moves all other frames in the list.
+            # Many frames are deleted at once, because every deletion moves all other frames in the list.
             some = MOST_KEPT // 10
             del self.frames[:some], self._moments[:some]
             self.forgotten += some
@@ -152,7 +154,7 @@ class SeenBus:
 
 
 class Received:
-    """The frames that arrived on the buses of a server, and which of them the expectations have taken.
+    """The frames that arrived on the buses of a server, and which of them were taken by expectations.
 
     `observed` are the interfaces whose frames are checked. The other interfaces receive only error message frames,
     which report their states.
@@ -162,23 +164,22 @@ class Received:
         self.observed = tuple(observed)
         self.buses = [SeenBus(names) for names in buses]
         self._bus_of = {name: bus for bus in self.buses for name in bus.names}
-        #: The frames in the order in which they arrived, and the number of all frames that have arrived.
+        #: The last frames in the order in which they arrived, and how many frames have arrived in total.
         self.arrivals: deque[Seen] = deque(maxlen=MOST_KEPT)
         self.arrived = 0
-        #: For each interface, the states that it was in, oldest first.
+        #: The states of each interface, oldest first.
         self.states: dict[str, list[StateSeen]] = {}
-        # The number of the first frame that was not taken: for each interface, and for each bus if all its interfaces
-        # count.
+        # The position of the first frame that was not taken: by interface, and by bus for calls without an interface.
         self._untaken: dict[str, int] = {}
         self._untaken_of_bus = [0 for _ in self.buses]
-        # For each interface, the index of the last expected state.
+        # The index of the last expected state of each interface.
         self._expected: dict[str, int] = {}
 
-    # Methods for frames and states that arrive.
+    # Methods that add frames and states.
 
     def add(self, name: str, text: str) -> None:
-        """Adds a message that delivers a frame to a session on this interface, such as `< frame 123 1.000002 11 other
-        17`."""
+        """Adds a protocol message that delivers a frame to a session on this interface, such as `< frame 123 1.000002
+        11 other 17`."""
         words = text.split()[1:]
         number, is_own = "", False
         if words[-2] in ("same", "other"):
@@ -195,11 +196,11 @@ class Received:
                 self.arrived += 1
 
     def begin(self, name: str, counters: ErrorCounters) -> None:
-        """Adds the first known state of an interface before the states that error message frames have already reported."""
+        """Adds the initial state of an interface, before the states that error message frames have already reported."""
         self.states.setdefault(name, []).insert(0, StateSeen(None, counters))
 
     def note_down(self, name: str, counters: ErrorCounters) -> None:
-        """Adds the state `down` of an interface, unless this was its last state."""
+        """Adds the state `down` of an interface, unless its last state is `down`."""
         if self.states[name][-1].counters.state != counters.state:
             self._note(name, StateSeen(None, counters))
 
@@ -218,8 +219,8 @@ class Received:
     # Expected frames.
 
     def channels(self, channel: Optional[str]) -> Sequence[str]:
-        """Returns the observed interfaces that may have received a frame. Raises ValueError if no interface is
-        observed, or if `channel` is not observed."""
+        """Returns the observed interfaces that an expectation checks: only `channel` if it is given, otherwise all.
+        Raises ValueError if no interface is observed, or if `channel` is not observed."""
         if not self.observed:
             raise ValueError("no interface of the server is observed: it was given observe=()")
         if channel is not None and channel not in self.observed:
@@ -227,8 +228,8 @@ class Received:
         return self.observed if channel is None else (channel,)
 
     def untaken(self, channel: Optional[str] = None) -> Iterator[Seen]:
-        """Yields the frames that have not been taken yet, ordered by timestamp; with `channel`, only the frames at this
-        interface."""
+        """Yields the frames that have not been taken yet, ordered by timestamp; with `channel`, only the frames that
+        this interface received."""
         names = self.channels(channel)
         found: list[Seen] = []
         for number, bus in self._buses_of(channel):
@@ -238,7 +239,8 @@ class Received:
         return iter(sorted(found, key=lambda seen: seen.moment) if len(self.buses) > 1 else found)
 
     def taken(self, channel: Optional[str] = None) -> Iterator[Seen]:
-        """Yields the frames that have been taken, latest first; with `channel`, only the frames at this interface."""
+        """Yields the frames that have been taken, latest first; with `channel`, only the frames that this interface
+        received."""
         names = self.channels(channel)
         found: list[Seen] = []
         for number, bus in self._buses_of(channel):
@@ -247,15 +249,15 @@ class Received:
         return iter(sorted(found, key=lambda seen: -seen.moment) if len(self.buses) > 1 else found[::-1])
 
     def _buses_of(self, channel: Optional[str]) -> list[tuple[int, SeenBus]]:
-        """Returns the bus of this interface and its number; without `channel`, all buses and their numbers."""
+        """Returns the bus of this interface with its index. Without `channel`, returns all buses with their indexes."""
         return [(number, bus) for number, bus in enumerate(self.buses) if channel is None or channel in bus.names]
 
     def _first(self, number: int, channel: Optional[str]) -> int:
-        """Returns the number of the first frame of a bus that has not been taken; with `channel`, at this interface."""
+        """Returns the position of the first frame on a bus that has not been taken; with `channel`, at this interface."""
         return self._untaken_of_bus[number] if channel is None else self._untaken.get(channel, 0)
 
     def take(self, seen: Seen, channel: Optional[str] = None) -> None:
-        """Takes a frame and all earlier frames of its bus; with `channel`, the earlier frames at this interface."""
+        """Takes a frame and all earlier frames on its bus; with `channel`, the earlier frames at this interface."""
         for number, bus in enumerate(self.buses):
             if not any(name in bus.names for name in seen.channels):
                 continue
@@ -274,7 +276,7 @@ class Received:
             self._expected[name] = len(states) - 1
 
     def missed(self, channel: Optional[str]) -> int:
-        """Returns the number of frames that were deleted before they could be taken."""
+        """Returns how many frames were deleted before they could be taken."""
         return sum(max(0, bus.forgotten - self._first(number, channel)) for number, bus in self._buses_of(channel))
 
     def last(self) -> list[Seen]:
@@ -290,8 +292,8 @@ class Received:
     # Expected states.
 
     def expected_state(self, name: str, state: str) -> Optional[StateSeen]:
-        """Returns the first time that an interface entered this state after the last expected state; else the current
-        state, if the interface is in this state; else None. The next search begins there."""
+        """Returns the first time that an interface entered this state after the last expected state. Otherwise returns
+        the current state if the interface is in this state, or None if it is not. The next search begins there."""
         states = self.states[name]
         last = len(states) - 1
         for place in [*range(self._expected.get(name, 0) + 1, last), last]:
@@ -306,7 +308,7 @@ class Received:
         return any(seen.counters.state == state for seen in self.states[name][self._expected.get(name, 0) + 1 :])
 
     def states_since(self, name: str) -> list[str]:
-        """Returns the states of an interface since the last expected state, but only the last ones if there are many.
+        """Returns the states of an interface since the last expected state; only the last ones if there are many.
         Returns an empty list if the state has not changed."""
         was = [seen.counters.state for seen in self.states[name][self._expected.get(name, 0) :]]
         shown = [".."] * (len(was) > MOST_SHOWN) + was[-MOST_SHOWN:]

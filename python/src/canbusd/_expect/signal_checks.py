@@ -1,4 +1,4 @@
-"""Checks of a signal over time: whether the signal follows a shape, or stays between two values."""
+"""Checks for a signal over time: whether the signal follows a shape, or stays between two values."""
 
 from collections.abc import Sequence
 from decimal import Decimal
@@ -15,7 +15,7 @@ class Sample(NamedTuple):
 
     moment: float
     value: Value
-    #: The value as a number, or the number that a name stands for; None for an unknown name.
+    #: The value as a number. For a name, this is the number that the name stands for; None for an unknown name.
     number: Optional[Decimal]
     seen: Seen
 
@@ -23,23 +23,23 @@ class Sample(NamedTuple):
 class Follower:
     """Checks whether successive values of a signal follow a shape.
 
-    The shape may begin at any value, or at any time between a value and the previous value. Each value may also be
-    late. So a value must be within the tolerance of the values that the shape has in this span of time.
+    The shape may begin at any value, or at any time between two values, and each value may be late. So a value must be
+    within the tolerance of the range of values that the shape may have at that time.
     """
 
     def __init__(self, shape: Shape, tolerance: float, late: float, before: Optional[float] = None) -> None:
         self._shape, self._tolerance, self._late = shape, tolerance, late
-        # The time of the value before the first one, or None if it is not known.
+        # The time of the value before the first one; None if it is not known.
         self._before = before
         self._samples: list[Sample] = []
         # The indexes of the values at which the shape may have begun.
         self._begun: list[int] = []
-        #: The best failed start of the shape: the index of the value at which the shape began, and the index of the
-        #: first value that did not follow it.
+        #: The failed start after which the signal followed the shape longest: the index of the value at which the shape
+        #: began, and the index of the first value that did not follow it.
         self._best: Optional[tuple[int, int]] = None
 
     def add(self, sample: Sample) -> Optional[list[Sample]]:
-        """Adds the next value. Returns the values that follow the shape when the shape is complete, else None."""
+        """Adds the next value. Returns the values that follow the shape once the shape is complete; otherwise None."""
         place = len(self._samples)
         self._samples.append(sample)
         still = []
@@ -68,7 +68,7 @@ class Follower:
         return number is not None and least - self._tolerance <= float(number) <= most + self._tolerance
 
     def failure(self) -> str:
-        """Returns a text that says how far the signal followed the shape."""
+        """Returns an error message that says how far the signal followed the shape."""
         if not self._samples:
             return "it did not come"
         if self._begun:
@@ -84,15 +84,15 @@ class Follower:
 
 
 def limits_of(formats: Sequence[SignalFormat], between: Optional[Sequence[float]]) -> tuple[Decimal, Decimal]:
-    """Returns the two values between which a signal must stay: the given values, or the limits in the database by
-    default."""
+    """Returns the minimum and maximum between which a signal must stay: the given values, or by default the limits in
+    the database."""
     if between is not None:
         return Decimal(str(between[0])), Decimal(str(between[1]))
     return max(one.least for one in formats), min(one.most for one in formats)
 
 
 def number_of(value: Value, formats: Sequence[SignalFormat]) -> Optional[Decimal]:
-    """Returns a value as a number. For a name, returns the number that it stands for, or None if the name is unknown."""
+    """Returns a value as a number. A name is converted to the number that it stands for, or to None if it is unknown."""
     if not isinstance(value, str):
         return Decimal(str(value))
     for one in formats:
@@ -103,6 +103,6 @@ def number_of(value: Value, formats: Sequence[SignalFormat]) -> Optional[Decimal
 
 
 def is_between(value: Value, formats: Sequence[SignalFormat], least: Decimal, most: Decimal) -> bool:
-    """Returns whether a value is within this range. For a name, the number that it stands for is compared."""
+    """Returns whether a value is within this range. A name is compared as the number that it stands for."""
     number = number_of(value, formats)
     return number is not None and least <= number <= most

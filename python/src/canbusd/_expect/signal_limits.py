@@ -12,8 +12,8 @@ from canbusd.signals import Value
 
 
 def check_conditions(name: str, formats: Sequence[SignalFormat], conditions: Mapping[str, Any]) -> None:
-    """Raises ValueError if no value can meet one of these limits. `formats` are the formats of all signals with this
-    name."""
+    """Raises ValueError if no value of the signal can meet one of these limits. `formats` are the formats of all
+    signals with this name."""
     for kind in ("above", "below"):
         if kind in conditions:
             check_number(kind, conditions[kind])
@@ -30,7 +30,7 @@ def check_number(kind: str, limit: object) -> None:
 
 
 def check_ends(ends: object) -> None:
-    """Raises ValueError if `ends` is not a range: two numbers with the lower one first."""
+    """Raises ValueError if `ends` is not a range, which consists of two numbers with the lower one first."""
     if not isinstance(ends, (tuple, list)) or len(ends) != 2:
         raise ValueError(f"between has two ends, such as (0, 100), not {ends!r}")
     for one in ends:
@@ -40,8 +40,7 @@ def check_ends(ends: object) -> None:
 
 
 def check_value(name: str, formats: Sequence[SignalFormat], value: Value) -> None:
-    """Raises ValueError if the value is neither a number nor a name of the signal, or if it is a number that has a
-    name."""
+    """Raises ValueError if the value is not a number or a name of the signal, or if it is a number that has a name."""
     if any(value in one.choices.values() for one in formats):
         return
     names = list(dict.fromkeys(name for one in formats for name in one.choices.values()))
@@ -54,7 +53,7 @@ def check_value(name: str, formats: Sequence[SignalFormat], value: Value) -> Non
 
 
 def is_number(value: Value) -> bool:
-    """Returns whether a value is a number or the text of a number, and not NaN."""
+    """Returns whether a value is a number or a number as a string, and not NaN."""
     try:
         return not math.isnan(float(value))
     except (TypeError, ValueError):
@@ -62,14 +61,14 @@ def is_number(value: Value) -> bool:
 
 
 def name_of(signal: SignalFormat, value: Value) -> str:
-    """Returns the name that a signal has for this number; the empty string if the number has no name."""
+    """Returns the name of this number in the signal; the empty string if the number has no name."""
     numbers_of_names = {name: float(raw * signal.factor + signal.offset) for raw, name in signal.choices.items()}
     return next((name for name, number in numbers_of_names.items() if is_near(number, value)), "")
 
 
 def is_near(value: Value, wanted: Value) -> bool:
     """Returns whether two values are equal. Names must be identical. Numbers may differ in the last digits, because
-    multiplying by a factor rounds."""
+    multiplication by a factor causes rounding errors."""
     if isinstance(value, str):
         return value == str(wanted)
     return is_number(wanted) and math.isclose(value, float(wanted), rel_tol=1e-9, abs_tol=1e-12)
@@ -99,5 +98,5 @@ CONDITIONS: dict[str, Callable[[Value, Any], bool]] = {
 
 
 def limit_words(limit: object) -> str:
-    """Returns the text for a limit of a signal: a value, or both ends of a range."""
+    """Formats a limit of a signal, which is a value or a range."""
     return " and ".join(map(str, limit)) if isinstance(limit, (tuple, list)) else str(limit)

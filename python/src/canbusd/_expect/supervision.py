@@ -1,4 +1,4 @@
-"""Expectations for several frames of a running server: cyclic frames, sequences of frames, and frames that do not
+"""Expectations for several frames on a running server: cyclic frames, sequences of frames, and frames that do not
 change.
 
     server.expect_cyclic(0x100, period=0.1, tolerance=0.01, count=10)
@@ -37,30 +37,30 @@ if TYPE_CHECKING:
 
     from canbusd._expect.observer import Observer
 
-#: How many seconds longer to wait for cyclic frames, because the first frame or others may be late.
+#: How many extra seconds to wait for cyclic frames, because frames may be late.
 SLACK = 1.0
-# The maximum number of wrong gaps in an error text.
+# The maximum number of wrong gaps that are shown in an error message.
 MOST_GAPS = 100
 
 
 def check_count(count: object, what: str) -> None:
-    """Raises ValueError if a count is not an integer of at least 1."""
+    """Raises ValueError if a count is not a positive integer."""
     if isinstance(count, bool) or not isinstance(count, int) or count < 1:
         raise ValueError(f"count is a number of {what}, 1 or more, not {count!r}")
 
 
 class Supervision:
-    """The expectations for several frames. Expectations is derived from this class."""
+    """The expectations for several frames. It is the base class of Expectations."""
 
-    #: The database that defines the names of messages and signals; None without names.
+    #: The database that defines the names of messages and signals; None if names can't be used.
     database: Optional[Database] = None
 
     def _observing(self) -> "Observer":
-        """Returns the observer of the server."""
+        """Returns the observer."""
         raise NotImplementedError
 
     def _shown(self, signals: Sequence[str] = ()) -> str:
-        """Returns the last frames that the test received, as the last part of an error text."""
+        """Returns the last frames that the test received, as the end of an error message."""
         raise NotImplementedError
 
     @explained()
@@ -79,10 +79,10 @@ class Supervision:
         seconds.
 
         `count` is the number of gaps. Each gap must be as long as the `period`, within the `tolerance`, which is a
-        tenth of the period by default. The frames are those since the last expectation. Their timestamps on the bus are
-        compared, so it does not matter how late the test calls this method. Raises AssertionError if gaps are wrong;
-        the error shows each wrong gap. Also raises it if not enough frames arrive within `within` seconds; the default
-        is the time of the periods plus one second.
+        tenth of the period by default. The first frame is the first one since the last expectation. The gaps are
+        computed from bus timestamps, so it does not matter how late the test calls this method. Raises AssertionError
+        if gaps are wrong; the error shows each wrong gap. Also raises it if not enough frames arrive within `within`
+        seconds; the default is the time of the periods plus one second.
         """
         __tracebackhide__ = True
         check_within(period, "period")
@@ -127,9 +127,9 @@ class Supervision:
         must be correct.
 
         `profile` is a profile of canbusd.e2e, such as ``e2e.Profile1(data_id=0x123)``. By default, the attributes of
-        the message in the database define it. The frames are those since the last expectation, and those that arrive
-        within `within` seconds. The counter of the first frame must follow the counter of the previous frame if that
-        frame was expected. Raises AssertionError if frames are wrong; the error shows each wrong frame and what is
+        the message in the database define it. The frames may have been received since the last expectation, or may
+        arrive within `within` seconds. The counter of the first frame must follow the counter of the previous frame if
+        that frame was expected. Raises AssertionError if frames are wrong; the error shows each wrong frame and what is
         wrong with it.
         """
         __tracebackhide__ = True
@@ -171,13 +171,13 @@ class Supervision:
         id: Union[int, str, None] = None,
         channel: Optional[str] = None,
     ) -> list[tuple[float, Value]]:
-        """Checks that a signal follows a shape of canbusd.shapes. Returns the values that follow it, each with its time
-        in seconds since the first value.
+        """Checks that a signal follows a shape of canbusd.shapes. Returns the values that follow the shape, each with
+        its time in seconds since the first value.
 
-        The shape must be complete within `within` seconds: a ramp up to its end, a sine wave for one period. Values
-        before the shape are ignored. The `tolerance` is in units of the signal; the default is a hundredth of the
-        difference between the shape's ends. A value may be up to `late` seconds late. Without a shape, all values in
-        these seconds are returned. They must be `between` two values, by default within the limits of the database.
+        The shape must be complete within `within` seconds. A ramp is complete at its end, a sine wave after one period.
+        Values before the shape are ignored. The `tolerance` is in units of the signal; the default is a hundredth of
+        the difference between the shape's ends. A value may be up to `late` seconds late. Without a shape, all values
+        in these seconds are returned. They must be `between` two values, by default within the limits of the database.
         Otherwise raises AssertionError; the error says how far the signal followed the shape, or which value is outside
         the limits.
         """
@@ -271,7 +271,7 @@ class Supervision:
         return [((moment - began) / 1e6, value) for moment, value in values]
 
     def _message_of(self, id: Union[int, str]) -> Optional[MessageFormat]:
-        """Returns the message of the database with this name or identifier; None if there is none."""
+        """Returns the message in the database with this name or identifier; None if there is none."""
         if self.database is None:
             return None
         if isinstance(id, str):
@@ -290,9 +290,9 @@ class Supervision:
         expectation, or may arrive within `within` seconds.
 
         A step is an identifier, the name of a message, or a dict with arguments of `expect`, such as ``{"id": 0x123,
-        "data": b"\\\\x01"}``. Between the first and the last step, any other frame is allowed; if `between` is given,
-        only the frames in it. Error message frames are always allowed. Otherwise raises AssertionError; the error names
-        the missing step, or the frame that is not allowed.
+        "data": b"\\\\x01"}``. Between the first and the last step, any other frame is allowed by default. If `between`
+        is given, only the frames in `between` are allowed. Error message frames are always allowed. Raises
+        AssertionError if a step is missing or a frame is not allowed.
         """
         __tracebackhide__ = True
         if not steps:
@@ -322,7 +322,7 @@ class Supervision:
     def _missing(
         self, wanted: Sequence[Wanted], followed: Optional[Followed], within: float, channel: Optional[str]
     ) -> str:
-        """Returns an error text that says which step of the sequence is missing, and which steps were found."""
+        """Returns an error message that says which step of the sequence is missing, and which steps were found."""
         observer = self._observing()
         frames = observer.untaken(channel)
         found, intruder = followed or follow(frames, wanted, None)
@@ -333,7 +333,7 @@ class Supervision:
             after = f" after {wanted[len(found) - 1]}" if found else ""
             at = "" if channel is None else f" at {channel}"
             text = f"no {step}{after}{at} within {seconds_words(within)}{observer.missed(channel)}"
-            # The frame may have arrived before the frame of an earlier step.
+            # The frame may have arrived too early, before the frame of an earlier step.
             early = next((seen for seen in frames if found and step.matches(seen.frame)), None)
             text += f": it came before, {observer.line(early, channel)}" if early else observer.hint(step, channel)
         lines = [f"  {observer.line(seen, channel)}" for seen in found]
@@ -349,7 +349,7 @@ class Supervision:
         channel: Optional[str] = None,
         is_extended_id: Optional[bool] = None,
     ) -> None:
-        """Fails if the data of frames with this identifier, or the value of this signal, changes within `within`
+        """Fails if the data of the frames with this identifier, or the value of this signal, changes within `within`
         seconds.
 
         The content must be the same as at the last expectation, or as in the first frame after it. Also fails if no

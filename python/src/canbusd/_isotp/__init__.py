@@ -1,1 +1,2 @@
-"""ISO-TP in Python with segment faults: the segments of a message, the options of a connection, and its ends."""
+"""ISO-TP in Python with segment faults: the segments of messages, the options of connections, and the ends of
+connections."""

@@ -9,11 +9,11 @@ from canbusd._calls import NamesWhatThereIs
 from canbusd._isotp.segments import SegmentFault
 from canbusd.frames import data_bytes
 
-#: The default time limit for a transfer in seconds; 4,095 bytes at 10 kbit/s take less time.
+#: The default time limit for a transfer in seconds. A message of 4,095 bytes takes less time even at 10 kbit/s.
 LONGEST_TRANSFER = 60.0
 #: The maximum length of a message in bytes.
 MOST_BYTES = 4095
-#: The text for each errno of a CAN_ISOTP socket (net/can/isotp.c).
+#: The error message for each errno of a CAN_ISOTP socket (net/can/isotp.c).
 ERRORS = {
     errno.ECOMM: "the other end sent no flow control in time, or a frame did not go out",
     errno.ETIMEDOUT: "the other end sent no consecutive frame in time",
@@ -22,12 +22,12 @@ ERRORS = {
     errno.EMSGSIZE: "the other end has no room for as many bytes",
     errno.ENETDOWN: "the interface is bus off or down",
 }
-#: The states in which an interface neither sends nor receives, in words.
+#: The states in which an interface can neither send nor receive, in words.
 OUTAGES = {"off": "bus off", "down": "down"}
 
 
 class IsoTpError(RuntimeError):
-    """A transfer failed. `errno` is the errno of a socket, or None with can-isotp."""
+    """A transfer has failed. `errno` is the errno of a socket, or None with can-isotp."""
 
     def __init__(self, text: str, number: Optional[int] = None) -> None:
         super().__init__(text)
@@ -43,7 +43,8 @@ class IsoTp(NamesWhatThereIs, ABC):
 
     @abstractmethod
     def send(self, data: bytes, timeout: float = LONGEST_TRANSFER, *, functional: bool = False) -> None:
-        """Sends a message, and returns after its last frame has been sent. Raises IsoTpError if the transfer fails.
+        """Sends a message. Returns after the last frame of the message was sent. Raises IsoTpError if the transfer
+        fails.
 
         If `functional` is true, the message is sent to all nodes in a single frame with the `functional` identifier.
         """

@@ -1,4 +1,4 @@
-"""The options of an ISO-TP end, in the form that its sockets and can-isotp expect."""
+"""The options of an ISO-TP end, in the format that sockets and can-isotp expect."""
 
 from dataclasses import dataclass
 from typing import Optional, Union
@@ -13,23 +13,24 @@ class Options:
 
     tx: int
     rx: int
-    #: The byte that pads frames to 8 bytes; None if frames are as short as possible.
+    #: The byte that pads frames to 8 bytes; None if frames are not padded.
     padding: Optional[int] = None
     fd: bool = False
     #: The maximum length of a sent frame in bytes.
     tx_dl: int = 8
-    #: The flow control that this end sends: the byte for the minimum time between consecutive frames, and the number of
-    #: frames in a block.
+    #: The parameters of the flow controls that this end sends: the byte with the minimum time between consecutive
+    #: frames, and the number of frames in a block.
     stmin: int = 0
     block_size: int = 0
-    #: The address byte of sent frames, and the address byte of received frames; None without addresses.
+    #: The address bytes of sent and of received frames; None if frames have no address byte.
     addresses: Optional[tuple[int, int]] = None
-    #: The identifier of functional requests, which go to all nodes in single frames; None without such requests.
+    #: The identifier of functional requests, which are sent to all nodes in single frames; None if there are no such
+    #: requests.
     functional: Optional[int] = None
 
     @property
     def has_29_bits(self) -> bool:
-        """Whether the identifiers of this end have 29 bits."""
+        """Whether the identifiers of this end are 29-bit identifiers."""
         return self.tx > 0x7FF
 
 
@@ -78,7 +79,7 @@ def options_of(
 
 
 def _addresses(extended: object) -> Optional[tuple[int, int]]:
-    """Returns the address bytes of sent and received frames; None if frames have no address."""
+    """Returns the address bytes of sent and of received frames; None if frames have no address byte."""
     if extended is None:
         return None
     meaning = (

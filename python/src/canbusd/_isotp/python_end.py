@@ -1,7 +1,7 @@
 """An ISO-TP end in this process that follows ISO 15765-2, with segment faults.
 
-A thread reads received frames and answers first frames. `send` waits for flow controls, and for each of its frames
-until the frame was on the bus. It knows this because the session receives its own frames.
+A thread reads received frames and answers first frames. `send` waits for flow controls, and waits after each frame
+until the frame was on the bus. To detect this, the session receives its own frames.
 """
 
 import errno
@@ -45,30 +45,32 @@ LONGEST_FRAME, LONGEST_CONTROL, LONGEST_GAP = 1.0, 1.0, 1.0
 
 
 class Incoming:
-    """A received message that is not complete yet."""
+    """A message of which some frames have not been received yet."""
 
     def __init__(self, size: int, data: bytes) -> None:
         self.size, self.data = size, bytearray(data)
-        #: The number of data bytes in each consecutive frame but the last, which is one more than in the first frame.
+        #: The number of data bytes in each consecutive frame except the last. It is one more than in the first frame.
         self.longest = len(data) + 1
-        #: The expected number of the next consecutive frame, and how many frames are left before the next flow control.
+        #: The expected sequence number of the next consecutive frame, and how many frames remain before the next flow
+        #: control.
         self.number, self.left = 1, 0
-        #: The latest time at which the next frame may arrive.
+        #: The deadline for the next frame, in the time of `time.monotonic`.
         self.deadline = time.monotonic() + LONGEST_GAP
 
 
 class Faults:
-    """The faults that will be applied to the next segments."""
+    """The faults that will be injected into the next segments."""
 
     def __init__(self) -> None:
         self._left: list[tuple[SegmentFault, int]] = []
 
     def add(self, fault: SegmentFault) -> None:
-        """Adds a fault, which applies to as many messages as its `count` says."""
+        """Adds a fault, which is injected into `count` messages."""
         self._left.append((fault, fault.count))
 
     def take(self, name: str) -> Optional[SegmentFault]:
-        """Returns the first added fault for this segment. Each message uses up one of the fault's `count`."""
+        """Returns the fault for this segment that was added first; None if there is none. Each call decrements the
+        remaining count of the fault."""
         for place, (fault, count) in enumerate(self._left):
             if fault.segment == name:
                 self._left[place : place + 1] = [(fault, count - 1)] if count > 1 else []
@@ -77,7 +79,7 @@ class Faults:
 
 
 class PythonIsoTp(IsoTp):
-    """An ISO-TP end that uses a python-can bus. `opened` opens the bus on this interface."""
+    """An ISO-TP end that uses a python-can bus. `opened` is a function that opens the bus on this interface."""
 
     library = "canbusd"
 
@@ -88,14 +90,14 @@ class PythonIsoTp(IsoTp):
         filters = [{"can_id": one, "can_mask": 0x1FFFFFFF, "extended": one > 0x7FF} for one in sorted(received)]
         self._bus = opened(channel, can_filters=filters, error_frames=False, fd=options.fd, receive_own_messages=True)
         self._sending, self._news, self._faults = threading.Lock(), threading.Condition(), Faults()
-        #: The received messages, each with a flag that is true for a functional request, and the errno of each failed
-        #: message.
+        #: The received messages, each with a flag that is true for a functional request, and the errnos of failed
+        #: receptions.
         self._received: deque[Union[tuple[bytes, bool], int]] = deque()
         self._controls: deque[Received] = deque()
-        # The number of frames that were sent to the bus, and how many of them the bus has transmitted.
+        # How many frames were sent to the bus, and how many of them the bus has transmitted.
         self._given = self._carried = 0
         self._incoming: Optional[Incoming] = None
-        # The delayed flow controls, and the times at which they are due.
+        # The delayed flow controls, with the times at which they are due.
         self._late: list[tuple[float, Segment]] = []
         # The exception that ended the thread, or None.
         self._end: Optional[BaseException] = None
@@ -136,7 +138,7 @@ class PythonIsoTp(IsoTp):
         return None if found is None else found[0]
 
     def recv_request(self, timeout: Optional[float] = None) -> Optional[tuple[bytes, bool]]:
-        """Returns the next message, as `recv` does, and whether it was a functional request."""
+        """Returns the next message, like `recv`, and whether it is a functional request."""
         with self._news:
             self._news.wait_for(lambda: self._received or self._end, timeout)
             if self._received:
@@ -155,7 +157,7 @@ class PythonIsoTp(IsoTp):
 
     @property
     def is_receiving(self) -> bool:
-        """Whether a message has been received in part."""
+        """Whether some frames of a message have been received, but not all."""
         return self._incoming is not None
 
     def close(self) -> None:
@@ -165,7 +167,8 @@ class PythonIsoTp(IsoTp):
     # Methods that send.
 
     def _with_faults(self, segment: Segment) -> Iterator[Segment]:
-        """Yields the segments that replace a segment because of a fault; without a fault, the segment itself."""
+        """Yields the segments that are sent instead of a segment because of a fault; without a fault, the segment
+        itself."""
         with self._news:
             fault = self._faults.take(segment.name)
         if fault is None:
@@ -177,7 +180,7 @@ class PythonIsoTp(IsoTp):
         """Sends a segment on the bus, and returns the number of its frame."""
         data = filled(segment.data, self._options.padding)
         frame = Frame(identifier, data, identifier > 0x7FF, is_fd=self._options.fd)
-        # The lock makes sure that frames are counted in the order in which they are sent.
+        # The lock ensures that frames are counted in the order in which they are sent.
         with self._news:
             try:
                 self._bus.send(frame.message(), LONGEST_FRAME)
@@ -187,7 +190,7 @@ class PythonIsoTp(IsoTp):
             return self._given
 
     def _error(self, fault: BaseException) -> IsoTpError:
-        """Returns the error of a transfer for an exception of the bus."""
+        """Converts an exception of the bus to the error of a transfer."""
         code = getattr(fault, "error_code", None)
         if code == errno.ENETDOWN:
             is_down = str(fault).startswith(INTERFACE_DOWN)
@@ -201,8 +204,8 @@ class PythonIsoTp(IsoTp):
             self._news.wait_for(lambda: self._carried >= number or self._end, seconds_until(is_over))
             if self._carried >= number:
                 return
-            # A frame that was lost at bus off, or when the interface went down, is never transmitted. So it is not
-            # waited for again.
+            # A frame that was lost at bus off or when the interface went down is never transmitted, so later calls must
+            # not wait for it.
             self._carried = self._given
             end = self._end
         if end is not None:
@@ -213,7 +216,7 @@ class PythonIsoTp(IsoTp):
         raise IsoTpError(ERRORS[errno.ECOMM], errno.ECOMM)
 
     def _await_control(self, deadline: float) -> tuple[int, float]:
-        """Waits for a flow control. Returns the number of frames in the next block, 0 for all, and the minimum time
+        """Waits for a flow control. Returns the number of frames in the next block (0 for all), and the minimum time
         between frames in seconds."""
         while True:
             with self._news:
@@ -229,7 +232,7 @@ class PythonIsoTp(IsoTp):
             if control.number == GO_ON:
                 return control.data[0], distance(control.data[1])
 
-    # Methods that receive frames, called by the thread.
+    # Methods that receive frames. They are called by the thread.
 
     def _read(self) -> None:
         try:
@@ -263,7 +266,7 @@ class PythonIsoTp(IsoTp):
             self._fail(errno.ETIMEDOUT)
 
     def _fail(self, number: int) -> None:
-        """Discards the incomplete message, and makes `recv` raise an error with this errno."""
+        """Discards the incomplete message. The next `recv` raises an error with this errno."""
         self._incoming = None
         self._received.append(number)
 
@@ -276,7 +279,7 @@ class PythonIsoTp(IsoTp):
         try:
             segment = read_segment(data, len(address))
         except ValueError:
-            # Frames that are not segments are ignored, as by a socket.
+            # Frames that are not valid segments are ignored, as by a CAN_ISOTP socket.
             return
         if segment.name == SINGLE:
             self._received.append((segment.data, is_functional))
@@ -286,7 +289,7 @@ class PythonIsoTp(IsoTp):
         elif segment.name == FLOW_CONTROL:
             self._controls.append(segment)
         elif segment.name == FIRST and segment.number == 0:
-            # The length is above 4,095 and is in the following bytes, so the message is too long.
+            # The length field is in the following bytes because the length is above 4,095, so the message is too long.
             self._reply(self._control(OVERFLOW))
         elif segment.name == FIRST:
             self._incoming = Incoming(segment.number, segment.data)
@@ -333,8 +336,8 @@ class PythonIsoTp(IsoTp):
             self._incoming = None
 
     def _reply(self, segment: Segment) -> None:
-        """Sends a flow control. If the bus refuses it, for example at bus off, the incomplete message fails and the
-        thread continues."""
+        """Sends a flow control. If the bus refuses it, for example at bus off, reception of the incomplete message
+        fails and the thread continues."""
         try:
             self._give(segment, self._options.tx)
         except IsoTpError as fault:

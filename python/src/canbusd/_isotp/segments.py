@@ -10,36 +10,36 @@ from canbusd.frames import FD_LENGTHS
 Kind = Literal["lost", "twice", "late", "short", "wrong number", "wait", "overflow"]
 KINDS: tuple[Kind, ...] = get_args(Kind)
 SINGLE, FIRST, CONSECUTIVE, FLOW_CONTROL = "single frame", "first frame", "consecutive frame", "flow control"
-#: The kinds of segments, by the first four bits of a segment.
+#: The kinds of segments, by the upper four bits of a segment's first byte.
 CODES = {0: SINGLE, 1: FIRST, 2: CONSECUTIVE, 3: FLOW_CONTROL}
 #: The status values of a flow control: continue, wait, and message too long.
 GO_ON, WAIT, OVERFLOW = range(3)
-#: The byte that pads frames if no padding is given. It needs no stuff bits.
+#: The byte that pads frames if no padding is given. It causes no stuff bits.
 FILLER = 0xCC
-#: The faults that are possible for one kind of segment only.
+#: Faults that are possible for only one kind of segment.
 ONLY_FOR: dict[str, str] = {"wrong number": CONSECUTIVE, "wait": FLOW_CONTROL, "overflow": FLOW_CONTROL}
 
 
 @dataclass(frozen=True)
 class SegmentFault:
-    """A fault that is applied to a segment in each of the next messages with that segment. Use uds.fault to create one."""
+    """A fault of a segment. It is injected into the next messages that have this segment. Use uds.fault to create one."""
 
     segment: str
     kind: Kind
-    #: The number of messages to which the fault is applied.
+    #: How many messages the fault is injected into.
     count: int = 1
     #: The delay of a late segment in seconds.
     delay: float = 1.5
 
 
 def fault(segment: str, kind: Kind, *, count: int = 1, delay: float = 1.5) -> SegmentFault:
-    """Returns a fault of a segment, such as ``fault("consecutive frame 3", "lost")``. Pass it to `inject` of an ISO-TP
+    """Returns a fault for a segment, such as ``fault("consecutive frame 3", "lost")``. Pass it to `inject` of an ISO-TP
     end, an Ecu or a Client.
 
-    A segment is a `single frame`, `first frame`, `consecutive frame N` with N from 1, or `flow control`. It can be
-    `lost`, sent `twice`, `late` by `delay` seconds, or too `short` by one byte. A consecutive frame can also have the
-    `wrong number`. A flow control can also say `wait`, and continue after the delay, or say `overflow`. The fault is
-    applied to the next `count` messages that have this segment.
+    A segment is a `single frame`, `first frame`, `consecutive frame N` with N starting at 1, or `flow control`. It can
+    be `lost`, sent `twice`, `late` by `delay` seconds, or too `short` by one byte. A consecutive frame can also have
+    the `wrong number`. A flow control can also be `wait`, followed by a normal flow control after the delay, or
+    `overflow`. The fault is injected into the next `count` messages that have this segment.
     """
     name, _, number = str(segment).partition(f"{CONSECUTIVE} ")
     if segment not in (SINGLE, FIRST, FLOW_CONTROL) and not (not name and number.isdecimal() and int(number) > 0):
@@ -67,7 +67,7 @@ class Segment:
 
 
 class Received(NamedTuple):
-    """A segment in a received frame: its kind, the number in its first byte or the length of the message, and the data
+    """A segment in a received frame: its kind, the value in its first byte or the length of the message, and the data
     bytes."""
 
     name: str
@@ -117,7 +117,7 @@ def read_segment(data: bytes, head: int) -> Received:
 
 
 def filled(data: bytes, padding: Optional[int]) -> bytes:
-    """Returns the data of a frame, padded to at least 8 bytes if there is a padding, and to a valid length for FD
+    """Returns the data of a frame, padded to at least 8 bytes if `padding` is given, and to a valid length for FD
     frames."""
     size = next(length for length in FD_LENGTHS if length >= len(data))
     if padding is not None:
@@ -126,7 +126,7 @@ def filled(data: bytes, padding: Optional[int]) -> bytes:
 
 
 def with_fault(segment: Segment, kind: Kind, delay: float) -> Sequence[Segment]:
-    """Returns the segments that are sent instead of a segment with a fault."""
+    """Returns the segments that are sent instead of a segment because of a fault."""
     if kind == "lost":
         return []
     if kind == "twice":
@@ -146,7 +146,7 @@ def _renumbered(data: bytes) -> bytes:
 
 
 def distance(stmin: int) -> float:
-    """Returns the minimum time between two consecutive frames in seconds. `stmin` is the byte of the flow control.
+    """Returns the minimum time between two consecutive frames in seconds. `stmin` is the byte in the flow control.
 
     For a reserved value, returns the longest possible time, as the standard requires.
     """

@@ -1,1 +1,1 @@
-"""libcanbusd: loading the library, its structs, and a bench that uses it."""
+"""libcanbusd: loading the library, the structs of the library, and a bench that uses the library."""

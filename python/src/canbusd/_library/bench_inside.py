@@ -16,8 +16,8 @@ ROOM = 4096
 
 
 def is_used() -> bool:
-    """Returns whether benches run inside this process, which requires the library. They run as a separate process if
-    `$CANBUSD_LIBRARY` is empty, or if `$CANBUSD` names a program and `$CANBUSD_LIBRARY` is not set."""
+    """Returns whether benches run inside this process, which is only possible with the library. They run as a separate
+    process if `$CANBUSD_LIBRARY` is empty, or if `$CANBUSD` names a program and `$CANBUSD_LIBRARY` is not set."""
     given = os.environ.get("CANBUSD_LIBRARY")
     if given is None and os.environ.get("CANBUSD"):
         return False
@@ -26,7 +26,7 @@ def is_used() -> bool:
 
 @functools.lru_cache(maxsize=None)
 def has_benches(given: Optional[str]) -> bool:
-    """Returns whether there is a library that supports benches. Raises LibraryNotFound if `$CANBUSD_LIBRARY` names a
+    """Returns whether the library exists and supports benches. Raises LibraryNotFound if `$CANBUSD_LIBRARY` names a
     library that does not exist."""
     try:
         return hasattr(library(), "canbusd_bench_new")
@@ -37,7 +37,7 @@ def has_benches(given: Optional[str]) -> bool:
 
 
 class BenchRefused(RuntimeError):
-    """The library refused to create a bench. The text is the library's text for the error code."""
+    """The library refused to create a bench. The message is the library's message for the error code."""
 
 
 class BenchInside:
@@ -46,9 +46,9 @@ class BenchInside:
     def __init__(
         self, names: Sequence[str], config: bytes, capacity: int, faults: bytes, why: Callable[[bytes], str]
     ) -> None:
-        """Creates a bench with these interface names, the struct of its bus, the capacity of receive queues and the
-        text of a fault script. Raises BenchRefused if the library refuses them. `why` returns the program's error text
-        for an input."""
+        """Creates a bench with these interface names, this struct that describes its bus, the capacity of its receive
+        queues and the text of a fault script. Raises BenchRefused if the library refuses them. `why` is a function that
+        returns the program's error message for an input."""
         self._why = why
         self._input: list[bytes] = []
         self._handle = ctypes.c_void_p()
@@ -64,7 +64,7 @@ class BenchInside:
         self._written = memoryview(self._room)
         self._arguments = self._room, ROOM, ctypes.byref(self._length), None
         self._rest = b""
-        #: Whether the bench has ended, and the error that ended it.
+        #: Whether the bench has ended, and the error that ended it if there was one.
         self.is_over = False
         self.said = ""
 
@@ -96,7 +96,7 @@ class BenchInside:
         return None if self.said else self._text("record" if ending == "rec" else ending)
 
     def _text(self, name: str) -> bytes:
-        """Calls a library function that writes a text into a buffer, and returns the text."""
+        """Calls a library function that writes a string into a buffer, and returns the string."""
         call, length = getattr(self._functions, f"canbusd_bench_{name}"), ctypes.c_size_t()
         code = call(self._handle, None, 0, ctypes.byref(length))
         room = ctypes.create_string_buffer(max(length.value, 1))

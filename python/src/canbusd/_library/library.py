@@ -1,5 +1,5 @@
-"""Loads libcanbusd, and declares its functions for ctypes. Structs are packed and unpacked as bytes, which is faster
-than setting the fields of a ctypes.Structure."""
+"""Loads libcanbusd, and declares its functions for ctypes. Structs are packed to and unpacked from bytes, which is
+faster than setting the fields of a ctypes.Structure."""
 
 import ctypes
 import ctypes.util
@@ -14,14 +14,14 @@ from typing import Optional
 from canbusd._process.program import SET_BY
 from canbusd._process.rates import Rates
 
-#: The version of the library's interface that this module uses, and the file name of the library with this version.
+#: The ABI version of the library that this module uses, and the library's file name with this version.
 ABI = 0
 SONAME = f"libcanbusd.so.{ABI}"
 
-# The codes of canbusd.h that do not mean a refusal.
+# The return codes of canbusd.h that do not stand for a refusal.
 OK, NOTHING = 0, 12
 
-# The structs of canbusd.h. In results, a frame consists of its head (identifier word, length and flags) and its data.
+# The structs in canbusd.h. In results, a frame consists of its head (identifier word, length and flags) and its data.
 CONFIG = struct.Struct("=7I")
 FRAME = struct.Struct("=IBBxx64s")
 HEAD = struct.Struct("=IBB")
@@ -53,7 +53,7 @@ _CALLS = {
     "get_load": [_POINTER, _U64, _POINTER],
     "record": _TEXT,
 }
-#: The functions for benches, which an older library does not have.
+#: The functions for benches, which older libraries do not have.
 _BENCH_CALLS = {
     "bench_new": [ctypes.c_char_p, _POINTER, _U32, _U32, ctypes.c_char_p, _SIZE, _POINTER, _POINTER],
     "bench_take": [_POINTER, ctypes.c_char_p, _SIZE, _POINTER, _SIZE, _POINTER, _POINTER],
@@ -68,8 +68,8 @@ class LibraryNotFound(FileNotFoundError):
 
 
 def find_library() -> str:
-    """Returns the path of libcanbusd: `$CANBUSD_LIBRARY`, else the library in the package, in the package's clone, or
-    in the system."""
+    """Returns the path of libcanbusd: `$CANBUSD_LIBRARY`, or the first library found in the package, in the clone of
+    the package, or in the system."""
     given = os.environ.get("CANBUSD_LIBRARY")
     if given:
         if not os.path.isfile(given):
@@ -94,15 +94,15 @@ def find_library() -> str:
 
 @functools.lru_cache(maxsize=None)
 def quick(name: str) -> Callable[..., int]:
-    """Returns a library function that must be called with ctypes objects, because arguments are not converted. The
-    function does not release the interpreter's lock, because no call of it blocks."""
+    """Returns a library function that must be called with ctypes objects, because its arguments are not converted. The
+    function does not release the GIL, because it never blocks."""
     function: Callable[..., int] = ctypes.PyDLL(find_library())[f"canbusd_{name}"]
     return function
 
 
 @functools.lru_cache(maxsize=None)
 def library() -> ctypes.CDLL:
-    """Returns the library, which is loaded at the first call."""
+    """Returns the library. The first call loads it."""
     loaded = ctypes.CDLL(find_library())
     has_benches = hasattr(loaded, "canbusd_bench_new")
     for name, arguments in {**_CALLS, **(_BENCH_CALLS if has_benches else {})}.items():
@@ -117,13 +117,13 @@ def library() -> ctypes.CDLL:
 def config_of(
     ifaces: int, ack: str, report: bool, auto_restart: int, txqueue: int, limit: int, rates: Optional[Rates]
 ) -> bytes:
-    """Returns the struct of a bus with this many interfaces and with these options, which must be valid."""
+    """Returns the struct that describes a bus with this many interfaces and with these options, which must be valid."""
     nominal, fast = (rates.bitrate, rates.dbitrate or 0) if rates else (0, 0)
     reporting = (1 << ifaces) - 1 if report else 0
     return CONFIG.pack(int(ack == "peers"), reporting, txqueue, limit, auto_restart, nominal, fast)
 
 
 def text_of(code: int) -> str:
-    """Returns the library's text for an error code."""
+    """Returns the library's error message for an error code."""
     text: bytes = library().canbusd_strerror(code)
     return text.decode()

@@ -1,1 +1,1 @@
-"""UDS: the bytes of requests and responses, the data and functions of a simulated ECU, and its memory for transfers."""
+"""UDS: the bytes of requests and responses, and the data, functions and memory of a simulated ECU."""

@@ -1,4 +1,4 @@
-"""The responses of a simulated ECU to requests of each service, based on the ECU's data and functions."""
+"""The responses of a simulated ECU to the requests of each service. They are based on the ECU's data and functions."""
 
 import inspect
 import time
@@ -11,12 +11,12 @@ from canbusd._uds.codes import NegativeResponse, check_length
 from canbusd._uds.memory import Memory
 from canbusd.frames import data_bytes
 
-#: After this many wrong keys in succession, the ECU refuses to send a seed for this many seconds.
+#: After MOST_KEYS wrong keys in succession, the ECU refuses requests for a seed for KEY_DELAY seconds.
 MOST_KEYS, KEY_DELAY = 3, 10.0
 
 
 def bytes_of_did(number: int, data: object) -> bytes:
-    """Returns the bytes of a DID. If the value is not bytes, raises ValueError with the number of the DID."""
+    """Returns the bytes of a DID. Raises ValueError with the number of the DID if the value is not bytes."""
     try:
         return data_bytes(data)
     except ValueError as fault:
@@ -25,8 +25,8 @@ def bytes_of_did(number: int, data: object) -> bytes:
 
 @dataclass
 class Guarded:
-    """A function for a DID or a routine, the sessions in which it may be called, and the security level that must be
-    unlocked. An empty list of sessions allows all sessions, and level 0 needs no unlocking."""
+    """A function for a DID or a routine, with the sessions in which it may be called and the security level that must
+    be unlocked. If there are no sessions, it may be called in all sessions. Level 0 does not have to be unlocked."""
 
     function: Callable[..., Optional[bytes]]
     sessions: Sequence[int]
@@ -39,7 +39,7 @@ class Lock:
 
     seed: Union[bytes, Callable[[], bytes]]
     key: Callable[[bytes], bytes]
-    #: The last seed that was sent, and the number of wrong keys in succession.
+    #: The last seed that was sent, and how many wrong keys have been received in succession.
     given: Optional[bytes] = None
     wrong: int = 0
     closed_until: float = 0.0
@@ -53,21 +53,21 @@ class Answers:
         #: The current session (1 default, 2 programming, 3 extended, or another number), and the sessions that the ECU
         #: supports.
         self.session, self.sessions = 1, {1, 2, 3}
-        #: The security level that is unlocked; 0 if none is.
+        #: The security level that is unlocked; 0 if no level is unlocked.
         self.level = 0
         #: The bytes of each DID: ``ecu.dids[0xF190] = b"WVW.."``. For a function instead of bytes, use the decorator
         #: `did`.
         self.dids: dict[int, bytes] = {}
         #: The DIDs that may be written. To call a function with the written bytes, use the decorator `write`.
         self.writable: set[int] = set()
-        #: The status of each trouble code: ``ecu.dtcs[0x123456] = 0x09``. `status_mask` has the status bits that the
-        #: ECU supports.
+        #: The status of each trouble code: ``ecu.dtcs[0x123456] = 0x09``. `status_mask` contains the status bits that
+        #: the ECU supports.
         self.dtcs: dict[int, int] = {}
         self.status_mask = 0xFF
-        #: Whether the ECU records trouble codes, and the last communication control; 0 means that all messages are
-        #: enabled.
+        #: Whether the ECU records trouble codes, and the type of the last communication control; 0 means that all
+        #: messages are enabled.
         self.sets_dtcs, self.communication = True, 0
-        #: The security level that downloads and uploads need; 0 if none.
+        #: The security level that must be unlocked for downloads and uploads; 0 if none.
         self.load_level = 0
         #: The services that are not available in the default session.
         self.not_in_default = {codes.SECURITY, codes.COMMUNICATION, codes.DTC_SETTING} | set(range(0x34, 0x38))
@@ -87,7 +87,7 @@ class Answers:
 
     @property
     def memory(self) -> dict[int, bytearray]:
-        """The memory for downloads and uploads, as a dict by start address: ``ecu.memory[0x1000] = bytearray(256)``."""
+        """The memory for downloads and uploads. The keys are start addresses: ``ecu.memory[0x1000] = bytearray(256)``."""
         return self._memory.regions
 
     def _carry_out(self, service: int, request: bytes) -> Optional[bytes]:
@@ -105,7 +105,7 @@ class Answers:
         return function(request)
 
     def _enter(self, session: int) -> None:
-        """Changes the session, which locks all security levels and ends a transfer."""
+        """Changes the session. This locks all security levels and ends a transfer."""
         self.session, self.level = session, 0
         self._memory.forget()
         if session == 1:
@@ -117,7 +117,7 @@ class Answers:
         return not one.sessions or self.session in one.sessions
 
     def _check_level(self, level: int) -> None:
-        """Refuses a request if it needs a security level that is locked."""
+        """Refuses a request that requires a security level which is locked."""
         if level and self.level != level:
             raise NegativeResponse(0x33)
 

@@ -1,4 +1,4 @@
-"""A UDS client for tests: requests, their responses, and a method for each common service."""
+"""A UDS client for tests, with a method for any request and a method for each common service."""
 
 import importlib
 import time
@@ -24,7 +24,7 @@ if TYPE_CHECKING:
 class Client(NamesWhatThereIs):
     """A tester on an interface of a server. It sends UDS requests (ISO 14229-1) to an ECU over ISO-TP.
 
-    The arguments are the same as for Server.isotp. A response must begin within `p2` seconds, or within `p2_star`
+    The arguments are the same as for `Server.isotp`. A response must begin within `p2` seconds, or within `p2_star`
     seconds after a pending response. Methods raise NegativeResponse for a negative response, TimeoutError for a missing
     response, and IsoTpError for a failed transfer.
     """
@@ -57,19 +57,19 @@ class Client(NamesWhatThereIs):
         for name, seconds in (("p2", p2), ("p2_star", p2_star)):
             check_within(seconds, name)
         self._p2, self._p2_star = p2, p2_star
-        #: The client's ISO-TP end. It can be passed to `connection` for use with udsoncan.
+        #: The client's ISO-TP end. To use it with udsoncan, pass it to `connection`.
         self.end = server.isotp(channel, tx=tx, rx=rx, functional=functional, library="canbusd", **options)
         self._python_end = cast(PythonIsoTp, self.end)
-        #: The number of pending responses before the last response.
+        #: How many pending responses preceded the last response.
         self.pending = 0
 
     @explained()
     def request(self, data: bytes, *, functional: bool = False) -> bytes:
         """Sends a request, and returns all bytes of the positive response.
 
-        If `functional` is true, the request is sent to all ECUs, and the first response counts. Raises NegativeResponse
-        if the request is refused. Raises TimeoutError if no response begins within P2, or within P2* after a pending
-        response.
+        If `functional` is true, the request is sent to all ECUs, and the first response is used. Raises
+        NegativeResponse if the request is refused. Raises TimeoutError if no response begins within P2, or within P2*
+        after a pending response.
         """
         __tracebackhide__ = True
         request = data_bytes(data)
@@ -80,7 +80,7 @@ class Client(NamesWhatThereIs):
         while True:
             answer = self.end.recv(seconds_until(deadline))
             while answer is None and self._python_end.is_receiving:
-                # P2 is the time limit for the beginning of the response, not for its end.
+                # P2 limits the time until the response begins, not until it ends.
                 answer = self.end.recv(LONGEST_GAP)
             if answer is None:
                 after = " after the last pending response" if self.pending else ""
@@ -96,11 +96,12 @@ class Client(NamesWhatThereIs):
                 deadline = time.monotonic() + seconds
 
     def session(self, kind: Union[int, str]) -> None:
-        """Changes the session to 1 or ``"default"``, 2 or ``"programming"``, 3 or ``"extended"``, or another number."""
+        """Changes the session to 1 or ``"default"``, 2 or ``"programming"``, 3 or ``"extended"``, or another session
+        number."""
         self.request(bytes([codes.SESSION, session_of(kind)]))
 
     def reset(self, kind: int = 1) -> None:
-        """Resets the ECU. `kind` is 1 for a hard reset, 2 for key off and on, and 3 for a soft reset."""
+        """Resets the ECU. `kind` is 1 for a hard reset, 2 for a key off/on reset, and 3 for a soft reset."""
         self.request(bytes([codes.RESET, byte_of("kind", kind)]))
 
     def read(self, did: int) -> bytes:
@@ -112,33 +113,36 @@ class Client(NamesWhatThereIs):
         self.request(bytes([codes.WRITE]) + _number("did", did) + data_bytes(data))
 
     def unlock(self, level: int, key: Callable[[bytes], bytes]) -> None:
-        """Unlocks a security level: requests a seed, and sends the key that the function `key` returns for the seed."""
+        """Unlocks a security level: requests a seed, calls the function `key` with the seed, and sends the key that it
+        returns."""
         seed = self.request(bytes([codes.SECURITY, byte_of("level", level)]))[2:]
         if any(seed):
             self.request(bytes([codes.SECURITY, level + 1]) + data_bytes(key(seed)))
 
     def routine(self, number: int, data: bytes = b"", kind: int = 1) -> bytes:
-        """Starts a routine (1), stops it (2) or requests its results (3). Returns the bytes after the routine's number
-        in the response."""
+        """Starts a routine (`kind` 1), stops it (2) or requests its results (3). Returns the bytes that follow the
+        routine's number in the response."""
         request = bytes([codes.ROUTINE, byte_of("kind", kind)]) + _number("number", number) + data_bytes(data)
         return self.request(request)[4:]
 
     def dtcs(self, mask: int = 0xFF) -> dict[int, int]:
-        """Returns a dict with the status of each trouble code whose status has at least one bit of this mask."""
+        """Returns the trouble codes whose status has at least one bit of this mask, as a dict of status by trouble
+        code."""
         found = self.request(bytes([codes.READ_DTCS, codes.DTCS_BY_STATUS, byte_of("mask", mask)]))[3:]
         rows = [found[place : place + 4] for place in range(0, len(found) - 3, 4)]
         return {int.from_bytes(row[:3], "big"): row[3] for row in rows}
 
     def clear_dtcs(self, group: int = codes.ALL_DTCS) -> None:
-        """Clears the trouble codes of a group; by default all trouble codes."""
+        """Clears a group of trouble codes; by default all trouble codes."""
         self.request(bytes([codes.CLEAR_DTCS]) + group.to_bytes(3, "big"))
 
     def tester_present(self, *, functional: bool = False) -> None:
-        """Sends TesterPresent, which keeps the session open, without requesting a response."""
+        """Sends TesterPresent without requesting a response. This keeps the session open."""
         self.end.send(bytes([codes.TESTER_PRESENT, codes.SUPPRESSED]), functional=functional)
 
     def download(self, address: int, data: bytes) -> None:
-        """Downloads bytes to the ECU's memory: RequestDownload, TransferData for each block, RequestTransferExit."""
+        """Downloads bytes to the ECU's memory, using RequestDownload, TransferData for each block, and
+        RequestTransferExit."""
         content = data_bytes(data)
         size = self._begin(codes.DOWNLOAD, address, len(content))
         for number, start in enumerate(range(0, len(content), size), 1):
@@ -146,7 +150,8 @@ class Client(NamesWhatThereIs):
         self.request(bytes([codes.TRANSFER_EXIT]))
 
     def upload(self, address: int, size: int) -> bytes:
-        """Uploads bytes from the ECU's memory: RequestUpload, TransferData for each block, RequestTransferExit."""
+        """Uploads bytes from the ECU's memory, using RequestUpload, TransferData for each block, and
+        RequestTransferExit."""
         self._begin(codes.UPLOAD, address, size)
         content, number = b"", 1
         while len(content) < size:
@@ -164,7 +169,7 @@ class Client(NamesWhatThereIs):
         self.end.close()
 
     def _begin(self, service: int, address: int, size: int) -> int:
-        """Begins a download or an upload. Returns the maximum number of data bytes in a TransferData request."""
+        """Begins a download or an upload. Returns how many data bytes a TransferData request can have."""
         numbers = address.to_bytes(4, "big") + size.to_bytes(4, "big")
         answer = self.request(bytes([service, 0x00, 0x44]) + numbers)
         return int.from_bytes(answer[2 : 2 + (answer[1] >> 4)], "big") - 2

@@ -1,4 +1,4 @@
-"""The numbers of the services of ISO 14229-1, and the codes of negative responses."""
+"""The numbers of the services in ISO 14229-1, and the codes of negative responses."""
 
 from typing import Union
 
@@ -7,15 +7,15 @@ from canbusd._calls import meant
 SESSION, RESET, CLEAR_DTCS, READ_DTCS, READ, SECURITY = 0x10, 0x11, 0x14, 0x19, 0x22, 0x27
 COMMUNICATION, WRITE, ROUTINE, DOWNLOAD, UPLOAD = 0x28, 0x2E, 0x31, 0x34, 0x35
 TRANSFER, TRANSFER_EXIT, TESTER_PRESENT, DTC_SETTING = 0x36, 0x37, 0x3E, 0x85
-#: The number that is added to the service in a positive response, and the first byte of a negative response.
+#: The value that is added to the service in a positive response, and the first byte of a negative response.
 POSITIVE, NEGATIVE = 0x40, 0x7F
 #: The services whose second byte is a subfunction.
 WITH_SUBFUNCTION = (SESSION, RESET, READ_DTCS, SECURITY, COMMUNICATION, ROUTINE, TESTER_PRESENT, DTC_SETTING)
-#: The subfunctions of READ_DTCS, and the group number that makes CLEAR_DTCS clear all trouble codes.
+#: The subfunctions of READ_DTCS, and the group for which CLEAR_DTCS clears all trouble codes.
 COUNT_DTCS, DTCS_BY_STATUS, SUPPORTED_DTCS, ALL_DTCS = 0x01, 0x02, 0x0A, 0xFFFFFF
-#: The bit of a subfunction that suppresses the positive response.
+#: The bit in a subfunction that suppresses the positive response.
 SUPPRESSED = 0x80
-#: The sessions of ISO 14229-1 by name.
+#: The sessions in ISO 14229-1, by name.
 SESSIONS = {"default": 1, "programming": 2, "extended": 3, "safetySystem": 4}
 CODES = {
     0x10: "generalReject",
@@ -51,12 +51,13 @@ CODES = {
     0x93: "voltageTooLow",
 }
 GENERAL_REJECT, PENDING = 0x10, 0x78
-#: The codes that are never sent in response to a functional request.
+#: The response codes that are never sent in response to a functional request.
 SILENT_TO_ALL = (0x11, 0x12, 0x31, 0x7E, 0x7F)
 
 
 def code_of(code: Union[int, str]) -> int:
-    """Returns the number of a code, which may be given as a name. Raises ValueError for an unknown name or number."""
+    """Returns the value of a response code, which may be given by name. Raises ValueError if the name or value is
+    unknown."""
     if isinstance(code, str):
         for number, name in CODES.items():
             if name.lower() == code.lower():
@@ -68,7 +69,7 @@ def code_of(code: Union[int, str]) -> int:
 
 
 def session_of(session: Union[int, str]) -> int:
-    """Returns the number of a session, which may be given as a name."""
+    """Returns the number of a session, which may be given by name."""
     if isinstance(session, str):
         if session not in SESSIONS:
             raise ValueError(f"session is a number, or one of {', '.join(SESSIONS)}, not {session!r}")
@@ -77,7 +78,7 @@ def session_of(session: Union[int, str]) -> int:
 
 
 def byte_of(what: str, number: object) -> int:
-    """Returns a number if it fits into one byte; else raises ValueError."""
+    """Returns `number` if it fits into one byte. Otherwise raises ValueError."""
     if isinstance(number, bool) or not isinstance(number, int) or not 0 <= number <= 0xFF:
         raise ValueError(f"{what} is a number from 0 to 0xFF, not {number!r}")
     return number
@@ -88,20 +89,20 @@ class NegativeResponse(Exception):
     one."""
 
     def __init__(self, code: Union[int, str], service: int = 0) -> None:
-        #: The number of the response code, and the service that was refused.
+        #: The response code, and the service that was refused.
         self.code, self.service = code_of(code), service
-        #: The name of the response code in ISO 14229-1.
+        #: The name of the response code, as in ISO 14229-1.
         self.name = CODES.get(self.code, f"code {self.code:02X}")
         super().__init__(f"{self.name} ({self.code:02X})" + (f" to service {service:02X}" if service else ""))
 
 
 def is_suppressed(request: bytes, answer: bytes) -> bool:
-    """Returns whether an answer is a positive response that its request suppresses."""
+    """Returns whether an answer is a positive response that the request asked to suppress."""
     has_bit = request[0] in WITH_SUBFUNCTION and len(request) > 1 and bool(request[1] & SUPPRESSED)
     return has_bit and answer[0] != NEGATIVE
 
 
 def check_length(request: bytes, least: int, most: int = 4095) -> None:
-    """Refuses a request that is shorter or longer than this."""
+    """Refuses a request that is shorter than `least` or longer than `most` bytes."""
     if not least <= len(request) <= most:
         raise NegativeResponse(0x13)

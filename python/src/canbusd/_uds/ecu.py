@@ -23,16 +23,16 @@ if TYPE_CHECKING:
     from canbusd.server import Server
 
 F = TypeVar("F", bound=Callable[..., Any])
-#: The next pending response is sent after this fraction of P2*.
+#: While a response is pending, the next pending response is sent after this fraction of P2*.
 PART = 0.9
 
 
-#: The sessions in which a function is available: one or more numbers or names; all sessions if empty.
+#: The sessions in which a function is available, as one or more numbers or names; empty for all sessions.
 Sessions = Union[int, str, Iterable[Union[int, str]]]
 
 
 def _keeper(table: dict[int, Guarded], number: int, sessions: Sessions, level: int) -> Callable[[F], F]:
-    """Returns a decorator that stores a function in a table under this number."""
+    """Returns a decorator that stores a function in a table under the key `number`."""
     if isinstance(number, bool) or not isinstance(number, int) or not 0 <= number <= 0xFFFF:
         raise ValueError(f"number is one from 0 to 0xFFFF, not {number!r}")
     allowed = tuple(map(session_of, [sessions] if isinstance(sessions, (int, str)) else sessions))
@@ -45,20 +45,21 @@ def _keeper(table: dict[int, Guarded], number: int, sessions: Sessions, level: i
 
 
 class OnDemand:
-    """Changes that are applied to the responses of services, each for a number of requests."""
+    """Changes to the responses of services. Each change applies to a number of requests."""
 
     def __init__(self) -> None:
         self._left: dict[int, list[list[Any]]] = {}
 
     def add(self, service: int, what: Any, count: int) -> None:
-        """Adds a change for the next `count` requests of a service. It is applied after the changes that were added
-        earlier."""
+        """Adds a change for the next `count` requests of a service. It applies after the changes that were added
+        earlier are used up."""
         if isinstance(count, bool) or not isinstance(count, int) or count < 1:
             raise ValueError(f"count is a number of requests, 1 or more, not {count!r}")
         self._left.setdefault(byte_of("service", service), []).append([what, count])
 
     def take(self, service: int) -> Any:
-        """Returns the change for the current request of a service; None if there is none."""
+        """Returns the change for the current request of a service, and uses it up for this request; None if there is no
+        change."""
         there = self._left.get(service)
         if not there:
             return None
@@ -69,11 +70,11 @@ class OnDemand:
 class Ecu(Answers, NamesWhatThereIs):
     """A simulated ECU on an interface of a server. A thread answers UDS requests (ISO 14229-1) over ISO-TP.
 
-    The arguments are the same as for Server.isotp. The ECU responds within `p2` seconds, and within `p2_star` seconds
+    The arguments are the same as for `Server.isotp`. The ECU responds within `p2` seconds, and within `p2_star` seconds
     after a pending response. It returns to the default session after `s3` seconds without a request. Its data are in
     `dids`, `dtcs` and `memory`. Its behaviour is defined by functions with the decorators `did`, `write`, `routine`,
-    `security` and `service`. While a function takes longer than P2, the ECU sends pending responses (78). If a function
-    raises NegativeResponse, the ECU sends that response.
+    `security` and `service`. If a function takes longer than P2, the ECU sends pending responses (78) in the meantime.
+    If a function raises NegativeResponse, the ECU sends that response.
     """
 
     _INSTEAD = {
@@ -113,12 +114,12 @@ class Ecu(Answers, NamesWhatThereIs):
         self._thread = threading.Thread(target=self._serve, name="canbusd ECU", daemon=True)
         self._thread.start()
 
-    # Methods that define the ECU's data and services.
+    # Methods that define the data and the services of the ECU.
 
     @explained("bytes are ecu.dids[0xF190] = b'..', and a function has the decorator @ecu.did(0xF190)")
     def did(self, number: int, *, sessions: Sessions = (), level: int = 0) -> Callable[[F], F]:
         """Decorates a function ``def f()`` that returns the bytes of a DID. If `sessions` are given, the DID can only
-        be read in these sessions. If a `level` is given, reads need this security level."""
+        be read in these sessions. If a `level` is given, this security level must be unlocked first."""
         return _keeper(self._readers, number, sessions, level)
 
     @explained("a function that takes what is written has the decorator @ecu.write(0xF190)")
@@ -128,7 +129,8 @@ class Ecu(Answers, NamesWhatThereIs):
 
     @explained("a function has the decorator @ecu.routine(0x0203)")
     def routine(self, number: int, *, sessions: Sessions = (), level: int = 0) -> Callable[[F], F]:
-        """Decorates a function ``def f(data)`` that runs a routine. The bytes that it returns are part of the response.
+        """Decorates a function ``def f(data)`` that runs a routine. The bytes that it returns are included in the
+        response.
 
         A function with a second parameter, ``def f(data, kind)``, is also called to stop the routine (2) and to get its
         results (3).
@@ -136,8 +138,7 @@ class Ecu(Answers, NamesWhatThereIs):
         return _keeper(self._routines, number, sessions, level)
 
     def security(self, level: int, *, seed: Union[bytes, Callable[[], bytes]]) -> Callable[[F], F]:
-        """Decorates a function ``def f(seed)`` that returns the key for a seed. The number of the security level is
-        odd."""
+        """Decorates a function ``def f(seed)`` that returns the key for a seed. `level` must be odd."""
         if isinstance(level, bool) or not isinstance(level, int) or not 0 < level < 0x7F or level % 2 == 0:
             raise ValueError(f"level is odd, from 1 to 0x7D, as a request for its seed has it, not {level!r}")
 
@@ -148,8 +149,8 @@ class Ecu(Answers, NamesWhatThereIs):
         return taken
 
     def service(self, number: int) -> Callable[[F], F]:
-        """Decorates a function ``def f(request)`` that answers a service. It returns the bytes of the response, or None
-        to send no response."""
+        """Decorates a function ``def f(request)`` that answers the requests of a service. It returns the bytes of the
+        response, or None for no response."""
         byte_of("service", number)
 
         def taken(function: F) -> F:
@@ -159,12 +160,13 @@ class Ecu(Answers, NamesWhatThereIs):
         return taken
 
     def refuse(self, service: int, code: Union[int, str], count: int = 1) -> None:
-        """Refuses the next `count` requests of a service with this response code, which is a number or a name."""
+        """Refuses the next `count` requests of a service with this response code. The code is given as a number or a
+        name."""
         self._refused.add(service, code_of(code), count)
 
     def delay(self, service: int, seconds: float, count: int = 1) -> None:
-        """Delays the responses to the next `count` requests of a service by this many seconds. After P2, the ECU sends
-        pending responses meanwhile."""
+        """Delays the responses to the next `count` requests of a service by `seconds`. After P2, the ECU sends pending
+        responses in the meantime."""
         check_within(seconds, "seconds")
         self._delayed.add(service, seconds, count)
 
@@ -200,7 +202,7 @@ class Ecu(Answers, NamesWhatThereIs):
             except IsoTpError:
                 if self._end.is_over:
                     return
-                # A request with a missing segment is ignored.
+                # A request that was not received completely is ignored.
                 continue
             if found is None:
                 self._enter(1)
@@ -210,12 +212,12 @@ class Ecu(Answers, NamesWhatThereIs):
                 self._last = time.monotonic()
 
     def _until_default(self) -> Optional[float]:
-        """Returns the number of seconds until the ECU returns to the default session; None if it is in the default
+        """Returns how many seconds remain until the ECU returns to the default session; None if it is in the default
         session."""
         return None if self.session == 1 else seconds_until(self._last + self._s3)
 
     def _handle(self, request: bytes, is_to_all: bool) -> None:
-        """Responds to a request. Sends pending responses while the response takes longer than P2."""
+        """Responds to a request. Sends pending responses if the response takes longer than P2."""
         future = self._worker.submit(self._answer, request, is_to_all)
         seconds, is_pending = self._p2, False
         while True:
@@ -230,7 +232,7 @@ class Ecu(Answers, NamesWhatThereIs):
             self._send(answer)
 
     def _send(self, answer: bytes) -> None:
-        # If the other end has given up, or the interface is bus off, the test sees this at the other end.
+        # If the other end has given up or the interface is bus off, the test notices this at the other end.
         with contextlib.suppress(IsoTpError):
             self._end.send(answer)
 

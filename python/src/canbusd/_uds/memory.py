@@ -1,4 +1,4 @@
-"""The memory of a simulated ECU, for downloads and uploads: RequestDownload, RequestUpload and TransferData."""
+"""The memory of a simulated ECU for downloads and uploads (RequestDownload, RequestUpload and TransferData)."""
 
 from dataclasses import dataclass
 from typing import Optional
@@ -17,13 +17,13 @@ class Transfer:
     start: int
     size: int
     is_download: bool
-    #: The number of bytes that were transferred, and the number of the next block.
+    #: How many bytes were transferred, and the number of the next block.
     done: int = 0
     counter: int = 1
 
 
 class Memory:
-    """The ECU's memory: a dict with the bytes of each region, by the region's start address."""
+    """The ECU's memory: a dict whose keys are the start addresses of regions and whose values are their bytes."""
 
     def __init__(self) -> None:
         self.regions: dict[int, bytearray] = {}
@@ -54,8 +54,8 @@ class Memory:
         check_length(request, 2, BLOCK)
         going = self._going()
         if going.is_download and going.done and request[1] == (going.counter - 1) % 256:
-            # The client repeats a block if it has not received the response. Then the response is sent again, but the
-            # block is not written twice.
+            # The client repeats a block if it did not receive the response. In this case, the response is sent again,
+            # but the block is not written again.
             return bytes([TRANSFER + 0x40, request[1]])
         if request[1] != going.counter % 256:
             raise NegativeResponse(0x73)
