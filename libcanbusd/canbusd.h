@@ -46,7 +46,8 @@ typedef struct canbusd canbusd;
 /* A bench: a bus with sessions that execute lines in the format of `canbusd bench`. */
 typedef struct canbusd_bench canbusd_bench;
 
-/* The result of a call: CANBUSD_OK, or the reason for its refusal. canbusd_strerror returns the text of each code. */
+/* The result of a call: CANBUSD_OK, or the reason for its refusal. canbusd_strerror returns the error message for each
+ * code. */
 enum {
     CANBUSD_OK = 0,
     CANBUSD_RECORD_FULL = 1,       /* the record already has `limit` entries: the bus does nothing more */
@@ -114,7 +115,7 @@ typedef struct canbusd_frame {
 #define CANBUSD_ESI 2                /* CANFD_ESI, with CANBUSD_FDF */
 #define CANBUSD_FDF 4                /* CANFD_FDF: an FD frame */
 
-/* A data or remote frame, or an error message frame, that a socket received. */
+/* A data or remote frame, or an error message frame, that a socket has received. */
 typedef struct canbusd_item {
     canbusd_frame frame;
     uint32_t iface;  /* the interface that sent the frame */
@@ -131,7 +132,7 @@ typedef struct canbusd_filter {
 
 #define CANBUSD_INVERTED 0x20000000u /* CAN_INV_FILTER */
 
-/* The counts of a socket's items when it was closed. */
+/* The counts of a socket's items at the time when it was closed. */
 typedef struct canbusd_closed {
     uint64_t unread;  /* items that the program has not received */
     uint64_t dropped; /* items that were dropped for lack of room */
@@ -150,9 +151,9 @@ typedef struct canbusd_tried {
     uint32_t unused;    /* 0 */
 } canbusd_tried;
 
-/* The outcome of an attempt. IDLE: no frame was waiting. DONE: the frame was sent. LAST_BIT: a fault in the last bit,
- * so the frame was received but is sent again. DESTROYED: a fault destroyed the frame. NO_ACK: the frame was not
- * acknowledged. */
+/* The outcome of an attempt. IDLE: no frame was waiting. DONE: the frame was sent. LAST_BIT: there was a fault in the
+ * last bit, so the frame was received but is sent again. DESTROYED: a fault destroyed the frame. NO_ACK: the frame was
+ * not acknowledged. */
 enum { CANBUSD_IDLE = 0, CANBUSD_DONE = 1, CANBUSD_LAST_BIT = 2, CANBUSD_DESTROYED = 3, CANBUSD_NO_ACK = 4 };
 
 /* The error counters of an interface, and the counts of its frames. */
@@ -194,10 +195,10 @@ typedef struct canbusd_load {
     uint64_t micros;       /* the total busy time in microseconds */
 } canbusd_load;
 
-/* The options of a socket, as in linux/can/raw.h. CANBUSD_ERR_FILTER is a mask of error classes, initially 0. The other
- * options are off if 0, and on otherwise. CANBUSD_LOOPBACK is initially on: other sockets of the interface receive the
- * socket's frames. The remaining options are initially off: the socket does not receive its own frames, accepts no FD
- * frames, and receives a frame that matches any one of its filters. */
+/* The options of a socket, as in linux/can/raw.h. CANBUSD_ERR_FILTER is a mask of error classes, initially 0. Each
+ * other option is off if it is 0, and otherwise on. CANBUSD_LOOPBACK is initially on: other sockets of the interface
+ * receive the socket's frames. The remaining options are initially off: the socket does not receive its own frames,
+ * accepts no FD frames, and receives every frame that matches at least one of its filters. */
 enum {
     CANBUSD_ERR_FILTER = 2,
     CANBUSD_LOOPBACK = 3,
@@ -206,18 +207,19 @@ enum {
     CANBUSD_JOIN_FILTERS = 6
 };
 
-/* Creates a bus. `names` lists its interfaces, separated by commas: 1 to 16 different names, each of 1 to 15 ASCII
- * letters, digits, `_`, `-` and `.`. The record's memory is reserved now, but only touched as entries are added. */
+/* Creates a bus. `names` lists the interfaces of the bus, separated by commas: 1 to 16 different names, each of 1 to 15
+ * ASCII letters, digits, `_`, `-` and `.`. The memory for the record is reserved now, but only touched as entries are
+ * added. */
 uint32_t canbusd_new(const char *names, const canbusd_config *config, canbusd **bus);
 
-/* Frees a bus; NULL is allowed. */
+/* Frees a bus. The pointer may be NULL. */
 void canbusd_free(canbusd *bus);
 
-/* Opens a socket on an interface, with a receive queue of `capacity` items, 1 to 65,536. At most 64 sockets may be
- * open. A new socket receives every frame. */
+/* Opens a socket on an interface, with a receive queue for `capacity` items, which must be between 1 and 65,536. At
+ * most 64 sockets may be open. A new socket receives every frame. */
 uint32_t canbusd_open(canbusd *bus, uint32_t iface, uint32_t capacity, uint32_t *socket);
 
-/* Closes a socket. Frames that it has put into the transmit queue stay there. `left` may be NULL. */
+/* Closes a socket. Frames that the socket has put into the transmit queue stay there. `left` may be NULL. */
 uint32_t canbusd_close(canbusd *bus, uint32_t socket, canbusd_closed *left);
 
 /* Sets the filters of a socket, at most 512. If `count` is 0, the socket receives only error message frames, and
@@ -227,25 +229,25 @@ uint32_t canbusd_set_filters(canbusd *bus, uint32_t socket, const canbusd_filter
 /* Sets an option of a socket, such as CANBUSD_ERR_FILTER. */
 uint32_t canbusd_set_option(canbusd *bus, uint32_t socket, uint32_t option, uint32_t value);
 
-/* Puts a frame into the transmit queue of the socket's interface. `number` is set to the number of frames that were put
- * there before; it may be NULL. */
+/* Puts a frame into the transmit queue of the socket's interface. `number` is set to how many frames were put there
+ * earlier; it may be NULL. */
 uint32_t canbusd_send(canbusd *bus, uint32_t socket, const canbusd_frame *frame, uint64_t *number);
 
 /* Takes the oldest item from a socket's queue. Returns CANBUSD_NOTHING if the queue is empty. */
 uint32_t canbusd_receive(canbusd *bus, uint32_t socket, canbusd_item *item);
 
-/* Attempts to send the frame that wins arbitration at this moment; the fault rules decide the result. On a bus with bit
- * rates the attempt begins at this moment, or as soon as the wire is free after it. `tried` may be NULL. */
+/* Attempts to send the frame that wins arbitration at `moment`; the fault rules decide the result. On a bus with bit
+ * rates the attempt begins at `moment`, or as soon as the wire is free after that. `tried` may be NULL. */
 uint32_t canbusd_attempt(canbusd *bus, uint64_t moment, canbusd_tried *tried);
 
-/* Makes attempts on a bus with bit rates, as long as the next attempt begins before this moment. `made` is set to the
- * number of attempts; it may be NULL. If the call returns CANBUSD_RECORD_FULL, some attempts were made. */
+/* Performs attempts on a bus with bit rates, as long as the next attempt begins before `moment`. `made` is set to the
+ * number of attempts; it may be NULL. If the call returns CANBUSD_RECORD_FULL, some attempts may have been made. */
 uint32_t canbusd_run(canbusd *bus, uint64_t moment, uint64_t *made);
 
 /* Restarts an interface that is bus off or down, and resets its error counters to 0. */
 uint32_t canbusd_restart(canbusd *bus, uint32_t iface, uint64_t moment);
 
-/* Takes an interface down. The frames in its transmit queue are lost. */
+/* Sets an interface down. The frames in its transmit queue are lost. */
 uint32_t canbusd_down(canbusd *bus, uint32_t iface, uint64_t moment);
 
 /* Adds a fault rule, such as `next 1 from can0 id 123 lastbit`. A bus keeps at most 64 rules. */
@@ -254,7 +256,8 @@ uint32_t canbusd_inject(canbusd *bus, const char *rule);
 /* Ends all rules. */
 uint32_t canbusd_end_rules(canbusd *bus);
 
-/* Return the state and counts of an interface, the counts of a socket, and the bus load before a moment. */
+/* The first function returns the state and counts of an interface, the second the counts of a socket, and the third the
+ * bus load before `moment`. */
 uint32_t canbusd_get_status(canbusd *bus, uint32_t iface, canbusd_status *status);
 uint32_t canbusd_get_stats(canbusd *bus, uint32_t socket, canbusd_stats *stats);
 uint32_t canbusd_get_load(canbusd *bus, uint64_t moment, canbusd_load *load);
@@ -279,7 +282,7 @@ uint32_t canbusd_record(canbusd *bus, char *text, size_t room, size_t *len);
 uint32_t canbusd_bench_new(const char *names, const canbusd_config *config, uint32_t capacity, uint32_t shows_faults,
                            const char *faults, size_t faults_len, canbusd_bench **bench, size_t *line);
 
-/* Frees a bench; NULL is allowed. */
+/* Frees a bench. The pointer may be NULL. */
 void canbusd_bench_free(canbusd_bench *bench);
 
 /* Executes lines one after another. Each line ends with LF, which may be missing from the last one. As much of their
@@ -298,15 +301,15 @@ void canbusd_bench_free(canbusd_bench *bench);
 uint32_t canbusd_bench_take(canbusd_bench *bench, const char *lines, size_t lines_len, char *output, size_t room,
                             size_t *len, size_t *line);
 
-/* Writes the output of the last canbusd_bench_take again, in the same way. */
+/* Writes the output of the last canbusd_bench_take again, in the same form as that call. */
 uint32_t canbusd_bench_output(canbusd_bench *bench, char *output, size_t room, size_t *len);
 
-/* Write the text of the record, and the log of the frames that attempts have tried to send, in the same way as
- * canbusd_record. The running time grows with the length of the record. */
+/* The first function writes the text of the record, the second the log of the frames that attempts have tried to send.
+ * Both write as canbusd_record does. The running time grows with the length of the record. */
 uint32_t canbusd_bench_record(canbusd_bench *bench, char *text, size_t room, size_t *len);
 uint32_t canbusd_bench_log(canbusd_bench *bench, char *text, size_t room, size_t *len);
 
-/* Returns the text of a code. The text stays valid for ever. */
+/* Returns the error message for a code. The message is static. */
 const char *canbusd_strerror(uint32_t code);
 
 #ifdef __cplusplus

@@ -69,7 +69,7 @@ void isotp_send_done(int error);
 void isotp_receive_frame(const struct canfd_frame *frame, uint64_t moment);
 bool isotp_is_receiving(void);
 /* Abandons a message if its next frame has not arrived in time. Returns the time on the clock when the wait for that
-   frame ends, or 0. */
+ * frame ends, or 0. */
 uint64_t isotp_receive_due(void);
 
 #endif

@@ -35,7 +35,7 @@ static void end(int error) {
 }
 
 /* Starts the timer after a frame has entered the transmit queue. The frame's echo, or the reply to the frame, must
-   arrive in time. */
+ * arrive in time. */
 static void begin_waiting(void) {
     isotp_timer_start(&tx.timer, tx.state == SENDING ? ISOTP_ECHO_TIMEOUT : ISOTP_TIMEOUT);
 }

@@ -237,7 +237,7 @@ static int j1939_sendmsg(const struct wire_request *request, const char *data, s
 /* ---- messages from the host ---- */
 
 /* The maximum number of received messages without data that are kept. Their datagrams are empty, so the library
-   requests their source and destination. */
+ * requests their source and destination. */
 #define EMPTIES 64
 static struct wire_empty empties[EMPTIES];
 static unsigned first_empty, empty_count;

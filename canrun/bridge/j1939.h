@@ -19,7 +19,7 @@
 #define NEVER UINT64_MAX
 
 /* The limits of message sizes: messages of one frame, of several frames (TP), and longer messages in an extended
-   transfer (ETP). */
+ * transfer (ETP). */
 #define ONE_FRAME 8u
 #define IN_PACKET 7u
 #define TP_LONGEST 1785u
@@ -115,7 +115,7 @@ void link_close(void);
  * link_take. Returns 0, or an errno. */
 int link_ask(const struct j1939_ask *ask, const void *data, size_t length);
 /* Takes the next message from the host. The message is TOLD_GONE if the host is gone. Returns false if there is no
-   message. */
+ * message. */
 bool link_take(struct j1939_told *told, const char **data, size_t *length);
 
 /* ---- j1939_errors.c: the error queue ---- */

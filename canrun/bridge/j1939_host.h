@@ -39,7 +39,7 @@ void host_close(void);
  * host resolves the names of the next message. */
 void host_settle_claims(void);
 /* Returns the timestamp, since 1970, of the frame that is being handled. If no frame is being handled, returns the
-   current time. */
+ * current time. */
 uint64_t host_moment(void);
 /* Resolves the names of a frame and sends the frame. Returns 0 and the frame's number, or an errno. */
 int host_put(const struct wire_way *way, const uint8_t *data, size_t length, uint64_t *number);
@@ -61,7 +61,7 @@ void member_tell(struct member *member, const struct j1939_told *told, const voi
 /* Tells the bridge that this many bytes, counted from the beginning of a segment, no longer count against SO_SNDBUF. */
 void member_tell_freed(struct member *member, uint32_t length);
 /* The first function returns whether this socket receives messages with this source and destination; the second,
-   whether any socket does. */
+ * whether any socket does. */
 bool member_wants(const struct member *member, const struct wire_way *way);
 bool members_want(const struct wire_way *way);
 /* Delivers a message to all sockets that receive it. */
@@ -134,7 +134,7 @@ void transfer_try_again(struct transfer *transfer);
 void transfer_wait(struct transfer *transfer, unsigned milliseconds);
 void transfer_stop(struct transfer *transfer);
 /* End a transfer. transfer_complete first delivers a received message to the sockets. The socket's next transfer then
-   begins. */
+ * begins. */
 void transfer_complete(struct transfer *transfer, const struct heard *heard);
 void transfer_end(struct transfer *transfer);
 /* Sends an abort with this reason, and keeps the transfer for ABORT_TIME. */

@@ -119,7 +119,7 @@ bool names_claim(uint64_t name, uint8_t address) {
 }
 
 /* Handles a node's claim of this address. If another node has the address, it keeps the address only if its own name is
-   lower. */
+ * lower. */
 static void contest(struct node *node, uint8_t address, uint64_t moment) {
     if (node->address != address) {
         take_address(node);

@@ -87,7 +87,7 @@ void writes_end(uint32_t key) {
 }
 
 /* Returns how many bytes of a write there is room for, and sets `cost` to the number of bytes that they count against
-   SO_SNDBUF. */
+ * SO_SNDBUF. */
 static size_t fitting(const struct turn *turn, int *cost) {
     size_t length = 0, left = turn->length - turn->done;
     *cost = 0;

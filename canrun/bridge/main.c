@@ -81,7 +81,7 @@ static int64_t do_due(void) {
 }
 
 /* Returns whether an accepted message has not been sent yet. Frames that wait for room are dropped after PATIENCE
-   seconds. */
+ * seconds. */
 static bool is_busy(uint64_t closed) {
     return protocol_is_busy() || (room_has_unasked() && clock_now() - closed < PATIENCE * SECOND);
 }

@@ -37,7 +37,7 @@ static bool is_full, is_small;
 /* The number and the total length of the datagrams that were written to the program's socket. */
 static uint64_t put_count, put_bytes;
 /* Whether the program's socket has no room until poll reports room. In virtual time another attempt costs a system
-   call. */
+ * call. */
 static bool is_blocked;
 static bool is_counted, is_stamped;
 static unsigned uncounted;

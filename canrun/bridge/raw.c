@@ -11,10 +11,10 @@
 #include <string.h>
 
 /* CAN_RAW_XL_FRAMES, which older headers do not define. No interface supports CAN XL, but this option also enables FD
-   frames. */
+ * frames. */
 #define RAW_XL_FRAMES 7
 /* The maximum number of characters for the filters in a message to the server. The whole message may have 1024
-   characters. */
+ * characters. */
 #define FILTER_TEXT 1000
 
 static struct options options = {.loopback = 1};

@@ -101,7 +101,7 @@ void room_look(int index) {
 }
 
 /* Returns whether to send the first waiting frame, because there is room or because other senders have taken the room
-   too often. */
+ * too often. */
 static bool is_time(struct session *session, uint64_t gone_before) {
     session->missed += session->gone != gone_before;
     bool is_time = session_has_room(session) || session->missed >= MOST_MISSED;

@@ -30,7 +30,7 @@ bool wait_for_input(int64_t nanoseconds, bool takes_requests) {
     polled[0].events &= (short)(news >= 0 ? ~POLLIN : ~0);
     polled[1] = (struct pollfd){news, POLLIN, 0};
     /* While a program has borrowed the session, that program reads the session's replies, and the bridge only watches
-       for the end of the session. */
+     * for the end of the session. */
     short news_of_session = quick_lend() ? POLLRDHUP : POLLIN;
     for (int i = 0; i < session_count; i++) {
         polled[2 + i] = (struct pollfd){outbox_is_crowded() ? -1 : sessions[i]->fd, news_of_session, 0};

@@ -1,5 +1,5 @@
 /* poll for sockets that have an error queue, such as J1939 sockets. Such a socket reports POLLERR as soon as its queue
- * has an entry, whichever events were asked for. The bridge writes to a pipe when there is an entry, and poll waits for
+ * has an entry, whichever events were requested. The bridge writes to a pipe when there is an entry, and poll waits for
  * the pipe as well as for the socket. */
 #define _GNU_SOURCE
 #include "library.h"

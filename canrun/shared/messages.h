@@ -23,13 +23,14 @@ struct item {
 /* The size of the longest command that sends a frame. */
 #define COMMAND 320
 
-/* Writes the text of the command that sends a frame. */
+/* Writes the command that sends a frame. */
 void message_of_frame(char text[COMMAND], const struct canfd_frame *frame, bool is_fd);
 
-/* Parses a message of the server, without its < and >, into an item. Returns false if the message contains no frame. */
+/* Parses a message from the server, without its < and >, into an item. Returns false if the message contains no frame.
+ */
 bool message_to_item(const char *text, struct item *item);
 
-/* Reads a decimal number and moves `at` past its digits. Returns false if there are no digits. */
+/* Reads a decimal number and moves `at` past the digits. Returns false if there are no digits. */
 bool message_number(const char **at, uint64_t *number);
 
 #endif

@@ -22,7 +22,7 @@
 /* The size of a socket's name, including its terminating 0. */
 #define WIRE_NAME_ROOM 64
 
-/* The size of the longest message in either direction, an ISO-TP message. */
+/* The maximum size of a message in either direction, which is that of an ISO-TP message. */
 #define WIRE_LARGEST 66000
 /* The maximum size of the data in a reply: 512 filters. */
 #define WIRE_REPLY 4096
@@ -60,7 +60,8 @@ enum wire_kind {
 };
 #define WIRE_BOUND (-1)
 
-/* How long a write may wait. WIRE_SHORT_WAIT is for a thread that blocks the signals that would end a longer wait. */
+/* How long a write may wait. WIRE_SHORT_WAIT is used in a thread that blocks the signals that would end a longer wait.
+ */
 enum wire_wait { WIRE_WAIT, WIRE_NO_WAIT, WIRE_SHORT_WAIT };
 
 struct wire_request {
@@ -77,14 +78,14 @@ struct wire_reply {
     uint32_t length; /* the length of the data that follow, at most WIRE_REPLY */
 };
 
-/* The header of a quick write; the frame follows it. No other message begins with the key. */
+/* The header of a quick write, which is followed by the frame. No other message begins with the key. */
 struct wire_quick {
     uint64_t key;
     int32_t ifindex;
     uint32_t place; /* the index of the place for the reply */
 };
 
-/* The place in shared memory for the reply to one quick write. `state` is an enum wire_state and a futex. */
+/* The entry in shared memory for the reply to one quick write. `state` is an enum wire_state and a futex. */
 struct wire_place {
     uint32_t state;
     struct wire_reply reply; /* without data; the error may be WIRE_NO_ROOM */
@@ -96,7 +97,7 @@ enum wire_state {
     PLACE_TAKEN, /* the bridge has taken the lent session back, and reads the reply */
     PLACE_REPLIED
 };
-/* The error of a quick write that found no room but may wait: the library then sends the write again with a pipe. */
+/* The error of a quick write that found no room but may wait. The library then sends the write again with a pipe. */
 #define WIRE_NO_ROOM (-1)
 
 /* The loan of a session in virtual time. In a lent session the server sends only replies. While the bridge waits, it
@@ -111,7 +112,7 @@ struct wire_loan {
     uint32_t count;   /* how many of the `numbers` the bridge has not noted yet */
     uint64_t numbers[WIRE_NUMBERS]; /* numbers that the server gave to frames */
 };
-/* A value for `ifindex` in a struct wire_quick. It marks a message that is not a write but asks the bridge to look at
+/* A value for `ifindex` in a struct wire_quick. It marks a message that is not a write but asks the bridge to check
  * `left`. */
 #define WIRE_LEFT INT32_MIN
 
@@ -127,7 +128,7 @@ struct wire_note {
     uint32_t length;
     uint8_t head[20]; /* the first bytes of the datagram */
 };
-/* The source and destination of a J1939 message. For an entry of the error queue, struct wire_notice adds the event and
+/* The source and destination of a J1939 message. For an entry in the error queue, struct wire_notice adds the event and
  * the message that it concerns. */
 struct wire_way {
     uint64_t name, to_name;
@@ -143,11 +144,11 @@ struct wire_notice {
 };
 enum wire_noticed { NOTICE_IS_THERE = 1, NOTICE_KEEPS = 2 /* an empty datagram stays: it is a message without data */ };
 enum wire_event { EVENT_SENT, EVENT_BEGUN, EVENT_FAILED, EVENT_OFFERED, EVENT_BLOCK, EVENT_BROKEN };
-/* The longest J1939 message that a socket receives. A datagram has room for it. */
+/* The maximum size of a J1939 message that a socket receives. A datagram has room for it. */
 #define WIRE_LARGEST_J1939 200000
 
-/* The header of a J1939 write: the length of the whole message and its destination. All bytes of the message follow, or
- * the first part of them. */
+/* The header of a J1939 write: the length of the whole message and its destination. After the header come all bytes of
+ * the message, or the first part of them. */
 struct wire_j1939 {
     uint32_t size, has_address, address_length;
     struct sockaddr_can address;
@@ -157,13 +158,13 @@ struct wire_j1939 {
 /* The minimum length of a J1939 address. */
 #define J1939_ADDRESS 24
 
-/* The number of notes. It exceeds the number of datagrams that fit into a socket: the bridge fills a socket with at
- * most WIRE_ROOM bytes, and the kernel counts more than 512 bytes for each datagram. */
+/* The number of notes. It is larger than the number of datagrams that fit into a socket: the bridge fills a socket with
+ * at most WIRE_ROOM bytes, and the kernel counts more than 512 bytes for each datagram. */
 #define WIRE_NOTES 8192
 #define WIRE_ROOM (WIRE_NOTES / 4 * 512)
 
 /* The notes of the most recent datagrams. The number of unread bytes in the socket shows which note belongs to a
- * datagram, so other readers of the socket cause no confusion. */
+ * datagram, so the notes still match if the socket has other readers. */
 struct wire_notes {
     uint64_t put;      /* total length of all datagrams that the bridge has put into the socket */
     uint64_t meant;    /* total length of these datagrams and of those that the bridge is putting there now */
@@ -181,7 +182,7 @@ struct wire_empty {
 };
 
 /* The memory that the library and the bridge share; each socket has its own. The library creates the memory, and the
- * bridge has it open at file descriptor WIRE_MEMORY. */
+ * bridge holds it open as file descriptor WIRE_MEMORY. */
 #define WIRE_PROGRAM 3
 #define WIRE_MEMORY 4
 #define WIRE_PLACES 15
