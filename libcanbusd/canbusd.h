@@ -11,21 +11,21 @@
  *     canbusd_receive(bus, tester, &item);
  *
  * Frames move only in canbusd_attempt and canbusd_run. No call waits, starts a thread, or reads a clock.
- * The calls are those of the proved Rattle bus: docs/DEFINITIONS.md defines what each one returns.
+ * The calls are those of the proved Rattle bus: docs/DEFINITIONS.md defines what each call returns.
  *
- * A program must keep these rules. Nothing checks them, and the behavior is undefined if a program breaks one:
+ * A program must follow these rules. Nothing checks them, and the behavior is undefined if a program breaks a rule:
  * - Only one thread at a time uses a bus or a bench. Two buses share nothing, so two threads may use them at once.
- * - A bus is freed only once, and not used after canbusd_free. Its sockets end with it.
- * - A bus is a pointer that canbusd_new returned. Each other pointer points to as much memory as its type and the given
- * length say, and these areas do not overlap.
+ * - A bus is freed only once, and not used after canbusd_free. Its sockets are closed with it.
+ * - A bus is a pointer that canbusd_new returned. Every other pointer points to memory of the size that its type and
+ * the given length require, and these memory areas do not overlap.
  *
  * Each call returns CANBUSD_OK or the reason for its refusal, except canbusd_strerror and the calls that free. A
  * refused call writes no result, with two exceptions: canbusd_new and canbusd_bench_new set their result to NULL, and
- * canbusd_bench_take has an output. A null pointer is refused with CANBUSD_NULL, unless the argument `may be NULL`.
+ * canbusd_bench_take writes its output. A null pointer is refused with CANBUSD_NULL, unless the argument `may be NULL`.
  *
- * Interfaces are numbered from 0, in the order of their names; in a set of interfaces bit i stands for interface i. The
- * number of a socket is never used again on the same bus. Moments are timestamps in microseconds, below 10^16. Bit
- * rates are in bits per second.
+ * Interfaces are numbered from 0, in the order of their names. In a set of interfaces, bit i represents interface i.
+ * The number of a socket is never used again on the same bus. A `moment` is a timestamp in microseconds, below 10^16.
+ * Bit rates are in bit/s.
  */
 #ifndef CANBUSD_H
 #define CANBUSD_H
@@ -263,38 +263,38 @@ uint32_t canbusd_get_stats(canbusd *bus, uint32_t socket, canbusd_stats *stats);
 uint32_t canbusd_get_load(canbusd *bus, uint64_t moment, canbusd_load *load);
 
 /* Writes the text of the record, which `canbusd audit` reads, into a buffer. It writes as much as fits, without a
- * terminating zero; `len` is the length of the whole text. If `room` is 0, `text` may be NULL.
+ * terminating zero; `len` is set to the length of the whole text. If `room` is 0, `text` may be NULL.
  *
- * An entry of the record is a call of canbusd_open, _close, _set_filters, _set_option, _send, _receive, _attempt,
- * _restart or _down, or an attempt of canbusd_run. A call that the bus refused is an entry too, except with
- * CANBUSD_RECORD_FULL or _NO_MEMORY. A call with invalid arguments, such as CANBUSD_BAD_FRAME, is not. Rules are not in
- * the record: only their verdicts are. */
+ * Each entry in the record is a call of canbusd_open, _close, _set_filters, _set_option, _send, _receive, _attempt,
+ * _restart or _down, or an attempt that canbusd_run made. A call that the bus refused is also an entry, unless it
+ * returned CANBUSD_RECORD_FULL or _NO_MEMORY. A call with invalid arguments, which returned for example
+ * CANBUSD_BAD_FRAME, is not an entry. The record does not contain rules, only their verdicts. */
 uint32_t canbusd_record(canbusd *bus, char *text, size_t room, size_t *len);
 
-/* Creates a bench. `names` and `config` are as in canbusd_new, and `capacity` is the number of items that a session's
- * socket holds, 1 to 65,536. If `shows_faults` is not 0, the output lines of attempts show their faults. `faults` is
- * NULL, or a text of `faults_len` bytes that contains a script and rules.
+/* Creates a bench. `names` and `config` are as in canbusd_new, and `capacity` is the number of items for which a
+ * session's socket has room; it must be between 1 and 65,536. If `shows_faults` is not 0, the output lines about
+ * attempts show the faults. `faults` is NULL, or a text of `faults_len` bytes that contains a script and rules.
  *
  * Errors are checked in this order: _BAD_NAMES; _BAD_BIT_RATES; _BAD_CONFIG for `ack` and `reporting`; _BAD_LINE,
- * _NO_INTERFACE, _REPEATED_ATTEMPT and _TOO_MANY_RULES for a line of `faults`; _BAD_CONFIG for the other numbers and
- * for `capacity`. _NO_MEMORY can occur at any point. `line` is set to the number of the wrong line in `faults`, from 1;
- * or to 0 if no line is to blame, for example if the text is not UTF-8. `line` may be NULL. */
+ * _NO_INTERFACE, _REPEATED_ATTEMPT and _TOO_MANY_RULES for a line in `faults`; _BAD_CONFIG for the other numbers and
+ * for `capacity`. _NO_MEMORY can occur at any point. `line` is set to the number of the wrong line in `faults`,
+ * starting at 1, or to 0 if no single line is wrong, for example if the text is not UTF-8. `line` may be NULL. */
 uint32_t canbusd_bench_new(const char *names, const canbusd_config *config, uint32_t capacity, uint32_t shows_faults,
                            const char *faults, size_t faults_len, canbusd_bench **bench, size_t *line);
 
 /* Frees a bench. The pointer may be NULL. */
 void canbusd_bench_free(canbusd_bench *bench);
 
-/* Executes lines one after another. Each line ends with LF, which may be missing from the last one. As much of their
- * output as fits is written to `output`, without a terminating zero; `len` is the length of the whole output. The
- * output is kept until the next call, and canbusd_bench_output writes it again. If `room` is 0, `output` may be NULL. A
- * full record is not an error: the output reports it.
+/* Executes lines one after another. Each line ends with LF, which may be missing at the end of the last line. As much
+ * of the output as fits is written to `output`, without a terminating zero; `len` is set to the length of the whole
+ * output. The output is kept until the next call, and canbusd_bench_output writes it again. If `room` is 0, `output`
+ * may be NULL. A full record is not an error: the output reports it.
  *
  * After any error except CANBUSD_NULL, the lines before the error have been executed and their output is available.
- * `line` is set to the number of the wrong line, counted from 1 within this call, or to 0 if no line is wrong. `line`
- * may be NULL. After CANBUSD_BAD_LINE the bench continues as if the wrong line were absent, with one exception: a
- * change that the bus refused, such as `up can0` for an interface that is neither bus off nor down, is in the record.
- * After CANBUSD_NO_MEMORY a line may be half executed, and some output may be missing.
+ * `line` is set to the number of the wrong line, starting at 1 in every call, or to 0 if no line is wrong. `line` may
+ * be NULL. After CANBUSD_BAD_LINE the bench continues as if the wrong line were absent, with one exception: a change
+ * that the bus refused, such as `up can0` for an interface that is neither bus off nor down, is in the record. After
+ * CANBUSD_NO_MEMORY a line may be half executed, and some output may be missing.
  *
  * A line has at most 4,096 bytes. The running time grows with the number of lines and the work that they do. Each call
  * allocates 8,192 bytes. */

@@ -1,17 +1,17 @@
-/* The messages between the preloaded library and a bridge. They use the SOCK_SEQPACKET pair that stands in for a CAN
- * socket.
+/* The messages between the preloaded library and a bridge. They are sent on the SOCK_SEQPACKET pair that replaces a
+ * CAN socket.
  *
  * The program's end of the pair has an abstract name: WIRE_NAME and a digit, the number of the protocol in linux/can.h.
  * The library recognizes a CAN socket by this name.
  *
- * Library to bridge: a request and its data, with the write end of a pipe (SCM_RIGHTS) for the one reply. There are two
- * kinds of messages without a pipe. A quick write gets its reply in memory that the library and the bridge share. Any
- * other message is a frame that the program wrote without the library, and gets no reply.
+ * From the library to the bridge: a request and its data, with the write end of a pipe (SCM_RIGHTS) for the only reply.
+ * There are two kinds of messages without a pipe. A quick write gets its reply in memory that the library and the
+ * bridge share. Any other message is a frame that the program wrote without the library, and gets no reply.
  *
- * Bridge to library: each datagram is exactly one CAN_RAW frame, or one message of another protocol. So every read
- * returns the same bytes as the kernel's own CAN socket, even a read that bypasses the library. All other facts about
- * the datagram are in a note in the shared memory. An empty datagram reports an error of the socket, which WIRE_ERROR
- * then takes. */
+ * From the bridge to the library: each datagram is exactly one CAN_RAW frame, or one message of another protocol. So
+ * every read returns the same bytes as the kernel's own CAN socket, even a read that bypasses the library. A note in
+ * the shared memory contains everything else about the datagram. An empty datagram reports an error of the socket,
+ * which WIRE_ERROR then takes. */
 #ifndef WIRE_H
 #define WIRE_H
 
