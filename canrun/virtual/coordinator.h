@@ -16,9 +16,9 @@ struct virtual_options {
 /* Runs the program in this file with these arguments, and all programs that it starts. Returns the exit status. */
 int virtual_run(const struct virtual_options *options, const char *file, char **words);
 
-/* Runs a child that the caller has already forked, and all programs that it starts. Returns the exit status. The child
- * gets the settings of the run through a pipe; `settings` is its writing end. Each setting is NAME=VALUE with a NUL
- * after it. */
+/* Runs a child that the caller has already forked, and all programs that the child starts. Returns the exit status. The
+ * child gets the settings of the run through a pipe; `settings` is the write end of that pipe. Each setting is
+ * NAME=VALUE followed by a NUL. */
 int virtual_run_child(const struct virtual_options *options, pid_t child, int settings);
 
 #endif

@@ -1,14 +1,14 @@
-/* What all threads of a run in virtual time share: one block of memory, and one epoll.
+/* The state that all threads of a run in virtual time share: one block of memory, and one epoll.
  *
- * One thread of the run has the turn: it runs, and the clock does not move. All other threads sleep on a word of their
- * slots. A thread that must wait (for a deadline, a descriptor, a lock, a child) describes the wait in its slot. Then
- * it gives the turn to the next thread that can continue. If there is none, the clock moves to the earliest deadline of
- * a waiting thread. Each thread registers the descriptors that it waits for in the epoll, which reports those that are
- * ready. So no thread has to find out which threads sleep, and the order is the same in each run.
+ * One thread of the run has the turn: it runs, and the clock does not move. All other threads sleep, each on a word in
+ * its slot. A thread that must wait (for a deadline, a descriptor, a lock or a child) describes the wait in its slot.
+ * Then it gives the turn to the next thread that can continue. If there is none, the clock moves to the earliest
+ * deadline of a waiting thread. Each thread registers the descriptors that it waits for in the epoll, which reports
+ * those that are ready. So no thread has to find out which threads sleep, and the order is the same in every run.
  *
- * This library does not see some waits: those inside the C library, and those of programs that do not load it. A thread
- * in such a wait is `outside`. The coordinator finds that the thread with the turn sleeps, takes the turn back, and
- * checks /proc before the clock moves. */
+ * This library does not see some waits: those inside the C library, and those of programs that do not load this
+ * library. A thread in such a wait is `outside`. The coordinator finds that the thread with the turn sleeps, takes the
+ * turn back, and checks /proc before the clock moves. */
 #ifndef RUN_H
 #define RUN_H
 
@@ -23,8 +23,8 @@
 #define SECOND 1000000000ull
 /* The value of CLOCK_MONOTONIC at the start of the run. */
 #define UPTIME (1000 * SECOND)
-/* The turn has three parts. The low bits are the number of the slot that has the turn; NOBODY means that the
- * coordinator has it. DECIDING means that its owner is choosing the next turn. The high bits count how often a slot got
+/* The turn has three parts. The low bits are the index of the slot that has the turn; NOBODY means that the coordinator
+ * has it. DECIDING means that the owner of the turn is choosing the next turn. The high bits count how often a slot got
  * the turn, so that no two turns are equal. Turns of the coordinator are not counted, because their number depends on
  * the machine, for example if a new thread begins late. */
 #define NOBODY 0x7fffffu
@@ -41,8 +41,8 @@ enum state {
     SLOT_TAKEN,   /* a thread is filling the slot */
 };
 
-/* The events of a waiting thread. No event, or IS_OVER, means that its deadline has come. LOOKS_AGAIN: a signal or a
- * timer of its process. IS_CANCELLED: pthread_cancel. TRIES_AGAIN: see `tries`. */
+/* The events of a waiting thread. No event, or IS_OVER, means that the thread's deadline has passed. LOOKS_AGAIN: a
+ * signal or a timer of the thread's process. IS_CANCELLED: pthread_cancel. TRIES_AGAIN: see `tries`. */
 enum {
     HAS_EVENT = 1,
     IS_WOKEN = 2,
@@ -53,7 +53,7 @@ enum {
     TRIES_AGAIN = 64
 };
 
-/* What a thread waits for. Messages use this. */
+/* What a thread waits for, for use in messages. */
 enum kind {
     KIND_MOMENT,
     KIND_DESCRIPTOR,
@@ -64,7 +64,7 @@ enum kind {
     KIND_KERNEL /* a file lock, queue or semaphore that only the kernel knows */
 };
 
-/* The first fields are those that each decision reads in all slots. */
+/* The first fields are those that are read in all slots whenever the next turn is chosen. */
 struct slot {
     _Atomic uint32_t go; /* the word that the thread sleeps on: how often it got the turn */
     _Atomic uint32_t state;
@@ -89,8 +89,8 @@ struct slot {
     _Atomic uint32_t is_foreign; /* a program that does not load this library */
 } __attribute__((aligned(128)));
 
-/* A timer that sends a signal: alarm, setitimer, timer_create. INTERVAL_TIMER is the id of the process's alarm and
- * setitimer; timers of timer_create have other ids. */
+/* A timer that sends a signal: alarm, setitimer, timer_create. INTERVAL_TIMER is the ID of the timer for alarm and
+ * setitimer; timers of timer_create have other IDs. */
 #define INTERVAL_TIMER 1
 struct alarm {
     _Atomic uint32_t pid; /* 0: unused */
@@ -103,16 +103,16 @@ struct alarm {
     uint32_t overrun;
 };
 
-/* A request from a process to the coordinator to send the signals of this alarm. NO_ALARM asks for the epoll of the
- * run. The connection identifies the process. */
+/* A request from a process to the coordinator to send the signals of this alarm. With NO_ALARM the process requests the
+ * run's epoll. The connection identifies the process. */
 #define NO_ALARM ALARMS
 struct request {
     uint32_t alarm, tid;
     int32_t number;
 };
 
-/* A timer that programs read: a timerfd. Its descriptor is a kernel timer that never runs, and the timer's interval
- * contains this number. So each process that has a descriptor of the timer finds it here. */
+/* A timer that programs read: a timerfd. Its descriptor is a kernel timer that never runs, and the kernel timer's
+ * interval contains `number`. So every process that has a descriptor of the timer can find this struct. */
 #define TIMERS 1024
 struct timer {
     _Atomic uint32_t number; /* 0: unused; its index in `timers` is the number modulo TIMERS */
@@ -171,10 +171,10 @@ struct run {
 
 #define RUN_MEMORY "canbusd-virtual"
 /* The environment variable with the path of the run's memory. The coordinator listens on an abstract socket name that
- * contains its process number. */
+ * contains its process ID. */
 #define RUN_SETTING "CANBUSD_RUN_VIRTUAL"
 #define RUN_SLOT "CANBUSD_RUN_SLOT"
-/* The environment variable with the options that repeat the run. Reports quote them. */
+/* The environment variable with the options that repeat the run. Reports quote these options. */
 #define RUN_OPTIONS "CANBUSD_RUN_OPTIONS"
 #define RUN_SOCKET "canbusd-virtual/%d"
 
