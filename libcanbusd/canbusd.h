@@ -50,16 +50,16 @@ typedef struct canbusd_bench canbusd_bench;
  * code. */
 enum {
     CANBUSD_OK = 0,
-    CANBUSD_RECORD_FULL = 1,       /* the record already has `limit` entries: the bus does nothing more */
+    CANBUSD_RECORD_FULL = 1,       /* the record already has `limit` entries, so the bus does nothing more */
     CANBUSD_NO_INTERFACE = 2,      /* the bus does not have this interface, or one that a rule names */
-    CANBUSD_BAD_CAPACITY = 3,      /* the capacity is not 1 to 65,536 */
+    CANBUSD_BAD_CAPACITY = 3,      /* the capacity is not between 1 and 65,536 */
     CANBUSD_TOO_MANY_SOCKETS = 4,  /* 64 sockets are open */
     CANBUSD_NO_SOCKET = 5,         /* no such socket is open */
-    CANBUSD_FD_OFF = 6,            /* an FD frame, but CANBUSD_FD_FRAMES is 0 */
+    CANBUSD_FD_OFF = 6,            /* the frame is an FD frame, but CANBUSD_FD_FRAMES is 0 */
     CANBUSD_BUS_OFF = 7,           /* the interface is bus off */
     CANBUSD_NO_BUFFERS = 8,        /* the transmit queue is full */
     CANBUSD_NOT_BUS_OFF = 9,       /* the interface is neither bus off nor down */
-    CANBUSD_NO_MEMORY = 10,        /* no memory; the bus is unchanged */
+    CANBUSD_NO_MEMORY = 10,        /* there is not enough memory; the bus is unchanged */
     CANBUSD_DOWN = 11,             /* the interface is down */
     CANBUSD_NOTHING = 12,          /* the socket's queue is empty */
     CANBUSD_BAD_FRAME = 13,        /* the identifier, length or flags are invalid */
@@ -67,15 +67,15 @@ enum {
     CANBUSD_BAD_OPTION = 15,       /* the option is not one of CANBUSD_ERR_FILTER .. */
     CANBUSD_BAD_FILTER = 16,       /* the mask of a filter has bit 29 set */
     CANBUSD_TOO_MANY_FILTERS = 17, /* there are more than 512 filters */
-    CANBUSD_BAD_RULE = 18,         /* the text is not a rule */
+    CANBUSD_BAD_RULE = 18,         /* the string is not a rule */
     CANBUSD_TOO_MANY_RULES = 19,   /* the bus already has 64 rules */
     CANBUSD_BAD_NAMES = 20,        /* not 1 to 16 names, two equal names, or an invalid name */
     CANBUSD_BAD_CONFIG = 21,       /* a number is outside its limits */
-    CANBUSD_BAD_BIT_RATES = 22,    /* outside the limits, or a data bit rate without a bit rate */
-    CANBUSD_BAD_RUN = 23,          /* the bus has no bit rate, or is already past the moment */
+    CANBUSD_BAD_BIT_RATES = 22,    /* a rate outside the limits, or a data bit rate without a bit rate */
+    CANBUSD_BAD_RUN = 23,          /* the bus has no bit rate, or has already run past the moment */
     CANBUSD_NULL = 24,             /* a null pointer */
     CANBUSD_BAD_LINE = 25,         /* a line of a bench or of its faults is wrong */
-    CANBUSD_REPEATED_ATTEMPT = 26, /* two lines of the faults are for the same attempt */
+    CANBUSD_REPEATED_ATTEMPT = 26, /* two lines of the faults concern the same attempt */
     CANBUSD_TOO_LONG = 27          /* the lines have more than 16,777,216 bytes */
 };
 
@@ -256,8 +256,8 @@ uint32_t canbusd_inject(canbusd *bus, const char *rule);
 /* Ends all rules. */
 uint32_t canbusd_end_rules(canbusd *bus);
 
-/* The first function returns the state and counts of an interface, the second the counts of a socket, and the third the
- * bus load before `moment`. */
+/* canbusd_get_status returns the state and counts of an interface, canbusd_get_stats the counts of a socket, and
+ * canbusd_get_load the bus load before `moment`. */
 uint32_t canbusd_get_status(canbusd *bus, uint32_t iface, canbusd_status *status);
 uint32_t canbusd_get_stats(canbusd *bus, uint32_t socket, canbusd_stats *stats);
 uint32_t canbusd_get_load(canbusd *bus, uint64_t moment, canbusd_load *load);
@@ -304,8 +304,8 @@ uint32_t canbusd_bench_take(canbusd_bench *bench, const char *lines, size_t line
 /* Writes the output of the last canbusd_bench_take again, in the same form as that call. */
 uint32_t canbusd_bench_output(canbusd_bench *bench, char *output, size_t room, size_t *len);
 
-/* The first function writes the text of the record, the second the log of the frames that attempts have tried to send.
- * Both write as canbusd_record does. The running time grows with the length of the record. */
+/* canbusd_bench_record writes the text of the record, and canbusd_bench_log the log of the frames that attempts have
+ * tried to send. Both write as canbusd_record does. The running time grows with the length of the record. */
 uint32_t canbusd_bench_record(canbusd_bench *bench, char *text, size_t room, size_t *len);
 uint32_t canbusd_bench_log(canbusd_bench *bench, char *text, size_t room, size_t *len);
 

@@ -12,8 +12,8 @@
 
 struct bcm_task *bcm_tasks;
 
-/* Returns the pointer that points to the task of a message, or the one at the end of the list if there is no such task.
- */
+/* Returns a pointer to the list link of the task that a message is about, or to the NULL link at the end if there is no
+ * such task. */
 static struct bcm_task **find(const struct bcm_head *head, int index, bool is_rx) {
     struct bcm_task **place = &bcm_tasks;
     while (*place && !((*place)->is_rx == is_rx && (*place)->head.can_id == head->can_id && (*place)->index == index &&

@@ -25,7 +25,7 @@ struct bcm_last {
 struct bcm_task {
     struct bcm_task *next;
     bool is_rx;
-    int index;            /* the task's interface; 0: an RX task of all interfaces */
+    int index;            /* the task's interface; 0: an RX task for all interfaces */
     struct bcm_head head; /* with the current flags, timers and count */
     unsigned at;          /* the index of the frame that is sent next */
     uint64_t due;         /* when the next frame or the timeout is due; 0: never */

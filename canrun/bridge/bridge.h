@@ -47,7 +47,7 @@ void keeper_run(void);
 struct options {
     int loopback, receive_own, fd_frames, xl_frames, join;
     uint32_t errors;
-    unsigned filters; /* the number of the filter list: 0 for the first list, which passes all frames; or NO_FILTERS */
+    unsigned filters; /* the number of the filter list: 0 for the first one, which passes all frames; or NO_FILTERS */
 };
 #define NO_FILTERS UINT32_MAX
 
@@ -59,29 +59,29 @@ struct session {
     int fd;                     /* -1: the session has ended */
     uint32_t number;            /* unique among the bridge's sessions, and never 0 */
     int index;                  /* the index of the interface */
-    bool is_local;              /* the connection is a Unix socket, which takes a command in full or not at all */
+    bool is_local;              /* the connection is a Unix socket, which accepts a command in full or not at all */
     bool is_shared;             /* programs have copies of the session's file descriptor */
     bool is_receiving;          /* the session receives for the socket; otherwise it only sends */
     bool is_counting;           /* a reply to session_ask_counts is due */
     uint32_t dropped;           /* how many frames the server has dropped, as far as the bridge knows */
     uint64_t seen;              /* how many items were received */
-    bool is_asked, is_answered; /* for session_ask_all: the counts were asked for; `queued` has the answer */
+    bool is_asked, is_answered; /* for session_ask_all: the counts were requested; `queued` contains the answer */
     uint64_t queued;
     struct options given; /* the options as last sent to the server */
-    enum due due;         /* the reply that has not come yet */
-    bool is_silent;       /* no reply came in time, so the next wait is short */
-    char reply[160];      /* the first reply other than ok to the last commands */
+    enum due due;         /* the reply that has not arrived yet */
+    bool is_silent;       /* no reply arrived in time, so the next wait is short */
+    char reply[160];      /* the first reply to the last commands that was not ok */
     size_t have;
     char input[32768];
     uint64_t gone, waiting; /* the last counts of the queue: frames that have left it, and frames waiting there */
-    uint64_t since;         /* how many frames of this session entered the queue after these counts */
-    uint64_t places;        /* the largest number of frames seen in the queue; this is its size once it was full */
-    bool was_full;          /* a frame that waits for room has found the queue full */
-    unsigned missed;        /* at how many checks in a row other senders had taken the free room */
-    uint64_t look_at;       /* while a frame waits for room: when to check the counts next */
-    int64_t pause;          /* while a frame waits for room: the pause after that check */
-    bool is_stuck;          /* a short wait for room failed, and the server has accepted no frame since */
-    uint64_t sent_end;      /* 1 + the highest number of a frame of this session */
+    uint64_t since;         /* how many frames of this session have entered the queue since these counts */
+    uint64_t places;   /* the largest number of frames seen in the queue; after it was full once, this is its size */
+    bool was_full;     /* a frame that waits for room has found the queue full */
+    unsigned missed;   /* at how many checks in a row other senders had taken the free room */
+    uint64_t look_at;  /* while a frame waits for room: when to check the counts again */
+    int64_t pause;     /* while a frame waits for room: the pause after that check */
+    bool is_stuck;     /* a short wait for room failed, and the server has accepted no frame since */
+    uint64_t sent_end; /* 1 + the highest number of a frame of this session */
     uint8_t sent[NUMBERS_KEPT / 8]; /* a bit for each of the last numbers: whether a frame of this session has it */
 };
 
@@ -110,8 +110,8 @@ int session_take_over(struct session *session, const char *text, size_t length, 
 /* Requests the counts without waiting for them. They arrive in order with the frames. */
 void session_ask_counts(struct session *session);
 
-/* The first function starts to ask the server how many items it has queued for this session. The second returns whether
- * all these items have arrived. */
+/* session_ask_all starts to ask the server how many items it has queued for this session. session_has_all returns
+ * whether all these items have arrived. */
 void session_ask_all(struct session *session);
 bool session_has_all(struct session *session);
 
@@ -135,7 +135,7 @@ bool session_read(struct session *session, bool waits);
 struct later {
     void (*done)(const struct later *later, int error);
     int reply_to, value;
-    uint64_t until;  /* the end of the wait, by the clock; 0: it has no end */
+    uint64_t until;  /* the end of the wait, by the clock; 0: the wait has no end */
     bool is_refused; /* a quick write of this frame has just found no room */
 };
 #define NOBODY (-1)
@@ -314,8 +314,8 @@ int quick_share(int to);
 /* Handles a quick write. Returns false if the data is not a quick write. */
 bool quick_serve(const char *data, size_t length);
 
-/* In virtual time: the first function lends the session to the programs of the socket, if possible. The second takes
- * the session back, and finishes the programs' writes. */
+/* In virtual time: quick_lend lends the session to the programs of the socket, if possible. quick_take_back takes the
+ * session back, and finishes the programs' writes. */
 bool quick_lend(void);
 void quick_take_back(void);
 
@@ -324,8 +324,7 @@ void quick_take_back(void);
 /* Replies to a request with this error or this value. */
 void request_reply(int to, int error, int value);
 
-/* The first function replies to a write that has waited. The second returns the struct later for a write that may wait.
- */
+/* request_done replies to a write that has waited. request_later returns the struct later for a write that may wait. */
 void request_done(const struct later *later, int error);
 struct later request_later(const struct wire_request *request, int to, int value);
 
@@ -338,8 +337,8 @@ bool is_same_pipe(int one, int other);
 /* Handles one request. Returns false if the last copy of the socket has been closed. */
 bool request_serve(void);
 
-/* For a protocol that leaves requests in the socket: the first function returns a file descriptor that becomes readable
- * when a request arrives. The second returns whether there is a request that the bridge has not read. */
+/* For a protocol that leaves requests in the socket: request_news returns a file descriptor that becomes readable when
+ * a request arrives. request_is_kept returns whether there is a request that the bridge has not read. */
 int request_news(void);
 bool request_is_kept(void);
 

@@ -19,7 +19,7 @@ struct card {
     unsigned long queued; /* how many items the server had queued for this session at the last request */
     uint32_t said;        /* the state according to the items that have arrived */
     bool was_down;        /* the interface has been down since its last restart */
-    bool has_news;        /* the state has changed, and the watchers do not know it yet */
+    bool has_news;        /* the state has changed, and the watchers have not been notified yet */
     char refusal[128];    /* why the last command was refused */
     size_t have;
     char input[4096];

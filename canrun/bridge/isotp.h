@@ -40,8 +40,8 @@ uint64_t isotp_last_number(void);
 
 struct isotp_timer {
     unsigned steps;  /* how many steps remain */
-    uint64_t due;    /* when this step should be over, by the clock; 0: the timer is off */
-    unsigned rounds; /* how many questions the server was asked after `due` */
+    uint64_t due;    /* when this step should end, by the clock; 0: the timer is off */
+    unsigned rounds; /* how many queries were sent to the server after `due` */
 };
 void isotp_timer_start(struct isotp_timer *timer, unsigned seconds);
 void isotp_timer_stop(struct isotp_timer *timer);

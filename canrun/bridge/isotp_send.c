@@ -18,10 +18,11 @@ static struct {
     enum { IDLE, WAITS_FIRST, WAITS, SENDING, PAUSES } state;
     char data[ISOTP_LONGEST];
     size_t at, length;
-    unsigned number, block, in_block; /* the next sequence number; frames in a block, and in this block so far */
-    uint64_t frame;                   /* the number of the frame whose echo is due */
-    uint64_t gap, next;               /* the length of the pause before a frame, and when the pause ends */
-    struct isotp_timer timer;         /* the timer for the echo or for flow control */
+    unsigned number, block,
+        in_block;             /* the next sequence number; how many frames are in a block, and in this block so far */
+    uint64_t frame;           /* the number of the frame whose echo is due */
+    uint64_t gap, next;       /* the length of the pause before a frame, and when the pause ends */
+    struct isotp_timer timer; /* the timer for the echo or for flow control */
 } tx;
 
 bool isotp_is_sending(void) {

@@ -345,7 +345,7 @@ static int j1939_request(const struct wire_request *request, int reply_to, struc
         if (error == ECONNREFUSED) {
             memcpy(data, &name, reply->length = length);
         }
-        /* The bind request reports all other errors of this interface index. */
+        /* All other errors of this interface index are reported by the bind request. */
         return error == EACCES || error == EMFILE ? error : 0;
     default: return refused(EINVAL, "library and bridge are not of the same version");
     }

@@ -43,7 +43,7 @@ static inline bool has_destination(uint32_t pgn) {
 /* The properties that decide whether a socket receives a message. */
 struct j1939_socket {
     uint64_t name, to_name;
-    uint32_t pgn; /* the only PGN that the socket receives, or J1939_NO_PGN for all */
+    uint32_t pgn; /* the only PGN that the socket receives, or J1939_NO_PGN for all PGNs */
     uint8_t from, to;
     bool is_connected, is_promiscuous, is_broadcast;
 };
@@ -60,8 +60,8 @@ struct j1939_ask {
 /* A message from the host to a bridge. */
 struct j1939_told {
     enum {
-        TOLD_REPLY,   /* the reply to a request: 0, or an error and its text */
-        TOLD_MESSAGE, /* a received message; its data follow */
+        TOLD_REPLY,   /* the reply to a request: 0, or an errno and its error message */
+        TOLD_MESSAGE, /* a received message; its data follows */
         TOLD_NOTICE,  /* an entry for the error queue */
         TOLD_ERROR,   /* the socket's error, if it has no error queue */
         TOLD_FREED,   /* a segment of this length has been sent */
@@ -98,8 +98,8 @@ bool writes_are_pending(void);
 /* Set and return the value of SO_SNDBUF. */
 void writes_set_room(int number);
 int writes_room(void);
-/* The first function returns the number of a message in the socket's error queue. The second makes these numbers start
- * again at 0. */
+/* writes_number returns the number of a message in the socket's error queue. writes_count_anew makes these numbers
+ * start again at 0. */
 uint32_t writes_number(const struct wire_notice *notice);
 void writes_count_anew(void);
 

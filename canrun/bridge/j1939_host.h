@@ -12,7 +12,7 @@ struct member {
     struct j1939_socket socket;
     struct j1939_filter *filters;
     size_t filter_count;
-    struct transfer *queue; /* messages that wait to be sent, the oldest first */
+    struct transfer *queue; /* messages that wait to be sent, oldest first */
     struct told *backlog;   /* messages for which the bridge's connection had no room */
 };
 
@@ -60,8 +60,8 @@ void member_flush(struct member *member);
 void member_tell(struct member *member, const struct j1939_told *told, const void *data, size_t length);
 /* Tells the bridge that this many bytes, counted from the beginning of a segment, no longer count against SO_SNDBUF. */
 void member_tell_freed(struct member *member, uint32_t length);
-/* The first function returns whether this socket receives messages with this source and destination; the second,
- * whether any socket does. */
+/* member_wants returns whether this socket receives messages with this source and destination, and members_want whether
+ * any socket does. */
 bool member_wants(const struct member *member, const struct wire_way *way);
 bool members_want(const struct wire_way *way);
 /* Delivers a message to all sockets that receive it. */
@@ -73,12 +73,12 @@ void members_deliver(const struct wire_way *way, const void *data, size_t length
 int names_use(uint64_t name, uint8_t address);
 void names_release(uint64_t name, uint8_t address);
 bool names_are_local(uint8_t address);
-/* The first function returns the name that has the address, or 0. The second returns the address of the name:
- * J1939_IDLE_ADDR if the name has no address, and J1939_NO_ADDR if the name is 0. */
+/* names_at returns the name that has the address, or 0. names_address returns the address of the name: J1939_IDLE_ADDR
+ * if the name has no address, and J1939_NO_ADDR if the name is 0. */
 uint64_t names_at(uint8_t address);
 uint8_t names_address(uint64_t name);
-/* The first function records that an address claim was on the bus at the time `moment`. The second prepares a claim
- * that a socket is about to send; it returns false if the name is unknown. */
+/* names_claimed records that an address claim was on the bus at the time `moment`. names_claim prepares a claim that a
+ * socket is about to send; it returns false if the name is unknown. */
 void names_claimed(uint64_t name, uint8_t address, uint64_t moment);
 bool names_claim(uint64_t name, uint8_t address);
 /* Marks claims as valid that were not contested up to this time. Returns when the next claim becomes valid. */
@@ -93,19 +93,19 @@ enum transfer_state { TRANSFER_NEW, TRANSFER_ACTIVE, TRANSFER_ABORTING, TRANSFER
 
 struct transfer {
     struct transfer *next, *next_queued;
-    struct member *owner; /* NULL: the message is received, or its socket is gone */
+    struct member *owner; /* NULL: the message is being received, or its socket is gone */
     bool is_sent, is_queued;
     enum transfer_kind kind;
     enum transfer_state state;
     struct wire_way way;
     bool is_from_us, is_to_us;
     uint8_t last_heard, last_sent; /* the last command in each direction */
-    uint32_t size, filled, freed;  /* numbers of bytes: in the whole message, present, and no longer needed */
+    uint32_t size, filled, freed;  /* byte counts: in the whole message, present, and no longer needed */
     uint8_t *data;
     unsigned retries;
     int error;
     uint32_t key;
-    uint64_t frame; /* the number of the frame, for a message of one frame */
+    uint64_t frame; /* the number of the frame, for a one-frame message */
     /* Packet counts. `total`: in the message. `last`: up to the end of the block. `sent`, `confirmed` and `received`:
      * so far. `block`: in a block. `offset`: before the current block. */
     uint32_t total, last, sent, confirmed, received, block, offset;
@@ -141,12 +141,12 @@ void transfer_end(struct transfer *transfer);
 void transfer_cancel(struct transfer *transfer, uint8_t reason);
 void transfer_notice(const struct transfer *transfer, enum wire_event what);
 void transfer_tell_error(const struct transfer *transfer);
-/* The first function returns the socket whose transfer sent the frame with this number. The second records that this
+/* transfers_echo returns the socket whose transfer sent the frame with this number. transfers_sent records that this
  * frame was on the bus. */
 const struct member *transfers_echo(uint64_t number);
 void transfers_sent(uint64_t number);
-/* The first function continues transfers that are due, and gives up those that had no answer until `known`; it returns
- * when the next transfer is due. The second returns whether any transfers remain. */
+/* transfers_due continues transfers that are due, and gives up those that had no answer until `known`; it returns when
+ * the next transfer is due. transfers_go_on returns whether any transfers remain. */
 uint64_t transfers_due(uint64_t now, uint64_t known);
 bool transfers_go_on(void);
 /* Frees the transfers of a socket. */

@@ -32,7 +32,7 @@ struct turn {
 static struct turn *turns;
 static unsigned turn_count;
 
-static uint32_t keys, keys_before; /* the number of messages so far, and its value when counting restarted */
+static uint32_t keys, keys_before; /* how many messages there were so far, and how many when counting restarted */
 static unsigned pending;           /* how many messages have not ended yet */
 static int used, room = ROOM_MOST;
 /* The key of a message whose remaining bytes come with the next write. */

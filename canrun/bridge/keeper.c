@@ -253,7 +253,7 @@ static void serve(void) {
     struct ucred peer = {.uid = (uid_t)-1};
     int connection = accept4(PROGRAM, NULL, NULL, SOCK_CLOEXEC), fd;
     if (connection < 0) {
-        return; /* The process that asked is gone. */
+        return; /* The process that sent the request is gone. */
     }
     getsockopt(connection, SOL_SOCKET, SO_PEERCRED, &peer, &(socklen_t){sizeof peer});
     if (peer.uid == geteuid() && read_request(connection, &request, &fd)) {

@@ -22,7 +22,7 @@ static struct can_filter all_pass[1];
 static struct can_filter *filters = all_pass;
 static size_t filter_count = 1;
 static unsigned filter_lists;
-static bool filters_here; /* the filters are too many for the server */
+static bool filters_here; /* there are too many filters for the server */
 
 /* ---- options ---- */
 

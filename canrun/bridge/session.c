@@ -170,7 +170,7 @@ static void handle_input(struct session *session) {
     session->have = (size_t)(end - at);
     memmove(session->input, at, session->have);
     if (session->have == sizeof session->input) {
-        session->have = 0; /* The text is longer than any message: this is not a canbusd. */
+        session->have = 0; /* The input is longer than any message, so the server is not a canbusd. */
     }
 }
 

@@ -306,7 +306,7 @@ int main(int count, char **all) {
         return run_virtual(&words);
     }
     if (words.is_ready) {
-        personality(ADDR_NO_RANDOMIZE); /* so that its children have the same addresses in each run */
+        personality(ADDR_NO_RANDOMIZE); /* so that its children have the same addresses in every run */
         status = preload(VIRTUAL_LIBRARY);
         return status ? status : become(words.program, 0);
     }

@@ -170,7 +170,7 @@ static void leave_program(unsigned kept) {
     }
 }
 
-/* ---- handing over ---- */
+/* ---- passing descriptors between processes ---- */
 
 static bool put(int by, int fd) {
     union {

@@ -66,7 +66,8 @@ static void hand_over(const struct call *call, int fd, bool is_cloexec) {
     }
 }
 
-/* Prints once that --static does not support CAN_J1939, whose errors and close require the library in the program. */
+/* Prints once that --static does not support CAN_J1939. The errors and the close of such a socket require the library
+ * in the program. */
 static void note_no_j1939(void) {
     static bool is_said;
     if (!__atomic_exchange_n(&is_said, true, __ATOMIC_RELAXED)) {

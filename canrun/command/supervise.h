@@ -27,7 +27,7 @@ bool give(const struct call *call, uint64_t there, const void *here, size_t leng
 /* Converts the result of a library call to the kernel's convention, in which a failure is a negative errno. */
 int64_t result(int64_t value);
 
-/* The first function replies to the call. The second lets the kernel make the call. */
+/* `reply` replies to the call. `let_go_on` lets the kernel make the call. */
 void reply(const struct call *call, int64_t value, uint32_t flags);
 void let_go_on(const struct call *call);
 

@@ -43,7 +43,7 @@ struct asked {
     int fd, reply_from;
     const char *what;
     bool may_end;        /* a signal ends the wait */
-    bool is_interrupted; /* a signal came, and its handler has no SA_RESTART */
+    bool is_interrupted; /* a signal arrived whose handler has no SA_RESTART */
 };
 
 /* Asks the bridge to end the wait of a write. If the bridge gets this request too late, the write has already been done

@@ -1,6 +1,7 @@
 /* Files below /sys/class/net, where some programs, such as those that use Qt, look for devices. Each interface of the
- * server has a directory there, with files that contain its properties. An opened file is a memory file with only that
- * content. The file status and permissions of a path are the same as for this path of the interface lo. */
+ * server has a directory there, with files that contain the properties of the interface. An opened file is a memory
+ * file with only that content. The file status and permissions of a path are the same as for the corresponding path of
+ * the interface lo. */
 #define _GNU_SOURCE
 #include "library.h"
 
@@ -49,8 +50,8 @@ static bool find_place(const char *path, struct place *place) {
 
 /* ---- texts ---- */
 
-/* Writes the content of a file that changes over time. Returns false if there is no such file, or if the content is
- * unknown. */
+/* Writes the content of a file whose content changes over time. Returns false if there is no such file, or if the
+ * content is unknown. */
 static bool write_fact(const struct place *place, char *text, size_t size) {
     struct link_facts facts = links_facts(place->index);
     const struct {

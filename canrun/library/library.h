@@ -213,8 +213,8 @@ int share_make(const char *name);
 bool note_of(struct wire_memory *memory, int fd, bool is_peeked, const void *head, size_t length,
              struct wire_note *note, struct wire_way *way);
 
-/* The first function returns whether this process looks for notes. The second records that a datagram was read without
- * looking for its note. */
+/* notes_are_looked_for returns whether this process looks for notes. note_plain_read records that a datagram was read
+ * without looking for its note. */
 bool notes_are_looked_for(void);
 void note_plain_read(struct wire_notes *received);
 
@@ -245,7 +245,7 @@ int take_shown(int fd);
 /* Records that this socket may have an error that poll must report. */
 void note_error_of(int fd);
 
-/* The first function records that this socket has an error queue. The second returns whether a socket has an error
+/* note_queue_of records that this socket has an error queue. has_error_queue returns whether a socket has an error
  * queue. */
 void note_queue_of(int fd);
 bool has_error_queue(int fd);
@@ -264,8 +264,8 @@ int watched_poll(struct pollfd *fds, nfds_t count, const struct timespec *timeou
  * Returns 0, or -1 with errno set. */
 int j1939_describe(struct msghdr *message, size_t room, const struct wire_way *way, int index);
 
-/* The first function returns whether the next message of a socket reports an error, which another call may already have
- * taken. The second removes that message. */
+/* has_error returns whether the next message of a socket reports an error, which another call may already have taken.
+ * drop_error removes that message. */
 bool has_error(int fd);
 void drop_error(int fd);
 
@@ -282,7 +282,7 @@ int start_bridge(int end, int memory);
 /* Returns the length of the server's transmit queues, or the default length if it is unknown. */
 int queue_length(void);
 
-/* The first function returns the index of the interface with this name. The second gets the name of the interface with
+/* index_of_name returns the index of the interface with this name. name_of_index gets the name of the interface with
  * this index. Both return -1 with errno set if there is no such interface. */
 int index_of_name(const char *name);
 int name_of_index(int index, char name[IFNAMSIZ]);

@@ -10,7 +10,7 @@
 /* A datagram that the library sends instead of the program's datagram. */
 #define OUTGOING 32768
 struct outgoing {
-    bool explains; /* the program has asked for the texts of refusals */
+    bool explains; /* the program has requested the error messages of refusals */
     size_t length;
     char data[OUTGOING];
 };
@@ -33,8 +33,8 @@ bool links_are_all(const struct nlmsghdr *asked);
  */
 bool addresses_are_asked(const struct nlmsghdr *asked);
 
-/* The position of a dump: the index of the next interface and, after the keeper was queried, the index of the last
- * interface with known properties. */
+/* The position of a dump: the index of the next interface. After the keeper was queried, it also contains the index of
+ * the last interface with known properties. */
 struct dump {
     int next, last;
     bool has_asked;

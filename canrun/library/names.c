@@ -137,7 +137,7 @@ static struct link *links(void) {
     return all;
 }
 
-/* Returns a pointer to the link to the server's first interface in a list, or to the end of the list. */
+/* Returns a pointer to the list link of the server's first interface, or to the NULL link at the end of the list. */
 static struct ifaddrs **place_of_ours(struct ifaddrs **list) {
     while (*list && !is_ours(*list)) {
         list = &(*list)->ifa_next;

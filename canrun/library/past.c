@@ -13,7 +13,7 @@
 #include <sys/sendfile.h>
 #include <sys/syscall.h>
 
-/* ---- with flags ---- */
+/* ---- calls with flags ---- */
 
 /* The flags that the kernel supports. A call with any other flag is passed to the kernel, which refuses it. */
 #define KNOWN_FLAGS (RWF_HIPRI | RWF_DSYNC | RWF_SYNC | RWF_NOWAIT | RWF_APPEND)
@@ -153,7 +153,7 @@ EXPORT int fileno_unlocked(FILE *stream) {
     return fileno(stream);
 }
 
-/* ---- by number ---- */
+/* ---- calls by system call number ---- */
 
 #define FD ((int)of[0])
 #define AT(index, type) ((type)of[index])

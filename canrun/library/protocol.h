@@ -21,12 +21,12 @@ struct socket {
 
 struct protocol {
     int family, type;       /* PF_CAN or PF_NETLINK; SOCK_RAW or SOCK_DGRAM */
-    socklen_t address_size; /* the least length of an address that the protocol accepts */
+    socklen_t address_size; /* the minimum length of an address that the protocol accepts */
     int level;              /* the level of the protocol's own options; 0: it has no options */
     int uncut_option;       /* the option whose value is returned in full or not at all; 0: no such option */
     bool lingers;           /* close waits until the accepted messages have been sent */
     bool shows_error;       /* poll reports the socket's own error */
-    bool has_ways;          /* the protocol is J1939: messages have ways, and sockets have error queues */
+    bool has_ways; /* the protocol is J1939: messages have a source and destination, and sockets have error queues */
 
     /* If a pointer is NULL, the kernel's own call is used. All arguments point to the program's memory, except those
      * for a message and its list of pieces. */
@@ -40,8 +40,8 @@ struct protocol {
 };
 extern const struct protocol raw_protocol, bcm_protocol, isotp_protocol, j1939_protocol, netlink_protocol;
 
-/* The first function returns the protocol of a file descriptor, the second whether it is a CAN socket. Both leave errno
- * unchanged. */
+/* socket_of returns a file descriptor and the protocol of its socket. is_can_socket returns whether the descriptor is a
+ * CAN socket. Both leave errno unchanged. */
 struct socket socket_of(int fd);
 bool is_can_socket(int fd);
 

@@ -12,7 +12,7 @@
 #include <sys/syscall.h>
 #include <time.h>
 
-/* After this many writes to a socket, counting the current one, a process borrows the session that the bridge lends. */
+/* How many writes to a socket, including the current one, make a process borrow the session that the bridge lends. */
 #define BORROWING 4
 static bool is_off;
 
@@ -112,7 +112,7 @@ static enum quick write_by(struct shared *one, const struct socket *sock, const 
     }
     if (!await_reply(sock->fd, sock->name, place, memory->key + quick.place)) {
         refuse_unsent("write", EPIPE);
-        return QUICK_REFUSED; /* The place stays taken, because a reply may still come. */
+        return QUICK_REFUSED; /* The entry stays in use, because a reply may still arrive. */
     }
     errno = before;
     enum quick result = get_reply(place, answer);

@@ -114,7 +114,7 @@ static struct shared *find(const char *name) {
     return NULL;
 }
 
-/* ---- asking for the memory ---- */
+/* ---- requesting the memory ---- */
 
 /* Receives two file descriptors from this end of a pair: the descriptor of the memory, and that of a session that may
  * be lent. A descriptor that does not arrive remains -1. */
@@ -150,7 +150,7 @@ static void ask_for_descriptors(int fd, int fds[2]) {
 }
 
 static struct wire_memory *map(int memory_fd) {
-    /* These system calls bypass the thread sanitizer, which does not see that the descriptor is created and closed. */
+    /* This system call bypasses the thread sanitizer, which does not see that the descriptor is created and closed. */
     const long access = PROT_READ | PROT_WRITE, kind = MAP_SHARED;
     void *memory = (void *)syscall(SYS_mmap, NULL, sizeof(struct wire_memory), access, kind, memory_fd, 0L);
     return memory == MAP_FAILED ? NULL : memory;

@@ -16,7 +16,7 @@
 struct watch {
     struct pollfd all[2 * MOST];
     nfds_t count, with_pipes;
-    int of[MOST]; /* the index of the socket that each pipe belongs to */
+    int of[MOST]; /* the index of the socket to which each pipe belongs */
 };
 
 /* Returns whether the socket has an error, or an entry in its error queue. */

@@ -40,17 +40,17 @@ struct link_facts {
 
 struct link_request {
     enum {
-        LINK_ASK,    /* asks for the facts of the interface */
-        LINK_LOOK,   /* asks for the known facts of `count` interfaces, from this one on */
+        LINK_ASK,    /* requests the properties of the interface */
+        LINK_LOOK,   /* requests the known properties of `count` interfaces, starting with this one */
         LINK_CHANGE, /* changes the interface as follows */
         LINK_WATCH   /* sends a copy of a socket (SCM_RIGHTS), which is to get the events of all interfaces */
     } kind;
     int32_t index;
     union {
         int32_t count;
-        int32_t process; /* LINK_WATCH: the process that has the socket; 0: the process that asks */
+        int32_t process; /* LINK_WATCH: the process that has the socket; 0: the process that sends the request */
     };
-    uint32_t bitrate, data_bitrate;    /* 0: no rate is asked for */
+    uint32_t bitrate, data_bitrate;    /* 0: no rate is requested */
     uint32_t modes, modes_changed;     /* CAN_CTRLMODE_ */
     uint32_t link_flags, link_changed; /* IFF_UP */
     uint32_t restart_ms;
@@ -60,7 +60,7 @@ struct link_request {
 struct link_reply {
     int32_t error;  /* an errno, or 0 */
     char text[160]; /* the reason for the error; without an error, a note for the program's user */
-    int32_t last;   /* the last interface of which facts are known; 0: no interface */
+    int32_t last;   /* the last interface with known properties; 0: no interface */
     struct link_facts facts[LINK_SEVERAL];
 };
 

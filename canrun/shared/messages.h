@@ -16,7 +16,7 @@ struct item {
     bool is_fd;
     uint64_t moment; /* nanoseconds since 1970 */
     enum { ORIGIN_NONE, ORIGIN_SAME, ORIGIN_OTHER } origin;
-    uint64_t number;        /* the frame's number at its sender's interface, if the frame has an origin */
+    uint64_t number;        /* the frame's number on its sender's interface, if the frame has an origin */
     uint32_t message_flags; /* the flags that recvmsg returns: MSG_DONTROUTE, MSG_CONFIRM */
 };
 

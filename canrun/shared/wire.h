@@ -33,13 +33,13 @@ enum wire_kind {
     WIRE_BIND,    /* binds to the address that follows, a struct sockaddr_can */
     WIRE_CONNECT, /* connects to the address that follows, a struct sockaddr_can */
     WIRE_SET,     /* sets an `option` of the protocol's level; the value follows */
-    WIRE_GET,     /* gets such an option; the reply's data are its value */
+    WIRE_GET,     /* gets such an option; the reply's data is the value */
     WIRE_SOCKET_SET, /* reports an `option` of SOL_SOCKET that the kernel has set */
-    WIRE_SOCKET_GET, /* gets an `option` of SOL_SOCKET that only the bridge knows; the reply's value is the option's
+    WIRE_SOCKET_GET, /* gets an `option` of SOL_SOCKET that only the bridge stores; the reply's value is the option's
                         value */
     WIRE_SET_DEVICE, /* SO_BINDTODEVICE, which the kernel does not store; `ifindex` is the index */
     WIRE_GET_DEVICE, /* gets the index of the SO_BINDTODEVICE interface, which is the reply's value */
-    WIRE_ADDRESS,    /* the reply's data are the socket's address; with an `option`, its peer's address */
+    WIRE_ADDRESS,    /* the reply's data is the socket's address or, with an `option`, the peer's address */
     WIRE_ERROR,      /* takes the socket's error, which is the reply's value; 0 if another call has taken the error */
     WIRE_CLOSE,  /* comes with one end of a socket pair in place of the pipe. A byte on the pair says that the program
                     has closed the socket. The bridge then waits until the socket's message has been sent, another byte
@@ -51,8 +51,8 @@ enum wire_kind {
     WIRE_EMPTY, /* takes the first message without data, which is the reply's data; the value is whether there is such a
                    message */
     WIRE_FILL,  /* does nothing; its bytes only fill the socket while there is no room for writes */
-    WIRE_HOST, /* connects to the host of the interface `ifindex`; if the host must be started, the reply's data are its
-                  abstract name */
+    WIRE_HOST,  /* connects to the host of the interface `ifindex`; if the host must be started, the reply's data is its
+                   abstract name */
     WIRE_CANCEL, /* a signal ends the wait of a request: this message comes with the read end of that request's pipe.
                     The waiting request gets the reply */
     WIRE_SHARE,  /* comes with one end of a socket pair in place of the pipe; the bridge sends the shared memory there
@@ -69,20 +69,20 @@ struct wire_request {
     int32_t ifindex;
     int32_t option;  /* for WIRE_SEND: whether a quick write of this frame has found no room */
     int32_t number;  /* the first number of a SOL_SOCKET value; for WIRE_SEND an enum wire_wait */
-    uint32_t length; /* the length of the data; after an ISO-TP message come bytes that only fill the socket */
+    uint32_t length; /* the length of the data; an ISO-TP message is followed by bytes that only fill the socket */
 };
 
 struct wire_reply {
-    int32_t error; /* 0, or an errno; with an errno the data are a text */
+    int32_t error; /* 0, or an errno; with an errno the data is an error message */
     int32_t value;
-    uint32_t length; /* the length of the data that follow, at most WIRE_REPLY */
+    uint32_t length; /* the length of the data that follows, at most WIRE_REPLY */
 };
 
 /* The header of a quick write, which is followed by the frame. No other message begins with the key. */
 struct wire_quick {
     uint64_t key;
     int32_t ifindex;
-    uint32_t place; /* the index of the place for the reply */
+    uint32_t place; /* the index of the entry for the reply */
 };
 
 /* The entry in shared memory for the reply to one quick write. `state` is an enum wire_state and a futex. */
@@ -107,10 +107,10 @@ enum wire_state {
 struct wire_loan {
     uint32_t session; /* the number of the lent session; 0: the bridge lends no session */
     uint32_t shared;  /* the number of the session whose descriptor was sent with the memory; 0: no session */
-    uint32_t asked;   /* 1 + the place of the write that waits for its reply; 0: no write */
-    uint32_t left;    /* 1 + the place of a write that leaves its reply's text there for the bridge; 0: no write */
-    uint32_t count;   /* how many of the `numbers` the bridge has not noted yet */
-    uint64_t numbers[WIRE_NUMBERS]; /* numbers that the server gave to frames */
+    uint32_t asked;   /* 1 + the index of the entry of the write that waits for its reply; 0: no write */
+    uint32_t left;    /* 1 + the index of the entry in which a write left its reply for the bridge; 0: no write */
+    uint32_t count;   /* how many of the `numbers` the bridge has not recorded yet */
+    uint64_t numbers[WIRE_NUMBERS]; /* numbers that the server assigned to frames */
 };
 /* A value for `ifindex` in a struct wire_quick. It marks a message that is not a write but asks the bridge to check
  * `left`. */
@@ -123,7 +123,7 @@ struct wire_note {
     int32_t ifindex;
     uint32_t dropped;       /* frames lost before this one, if SO_RXQ_OVFL is set */
     uint32_t message_flags; /* MSG_DONTROUTE, MSG_CONFIRM */
-    uint16_t is_stamped;    /* SO_TIMESTAMPING asks for the timestamp */
+    uint16_t is_stamped;    /* SO_TIMESTAMPING requests the timestamp */
     uint16_t head_length;
     uint32_t length;
     uint8_t head[20]; /* the first bytes of the datagram */
@@ -166,13 +166,13 @@ struct wire_j1939 {
 /* The notes of the most recent datagrams. The number of unread bytes in the socket shows which note belongs to a
  * datagram, so the notes still match if the socket has other readers. */
 struct wire_notes {
-    uint64_t put;      /* total length of all datagrams that the bridge has put into the socket */
-    uint64_t meant;    /* total length of these datagrams and of those that the bridge is putting there now */
+    uint64_t put;      /* the total length of all datagrams that the bridge has written to the socket */
+    uint64_t meant;    /* the total length of these datagrams and of those that the bridge is writing now */
     uint64_t count;    /* how many datagrams have notes */
-    uint64_t found;    /* the number, from 1 on, of the last datagram whose note was found */
+    uint64_t found;    /* the number, starting at 1, of the last datagram whose note was found */
     uint32_t is_mixed; /* the program reads some datagrams without looking for their notes */
     struct wire_note notes[WIRE_NOTES];
-    struct wire_way ways[WIRE_NOTES]; /* the ways of the same datagrams, for J1939 */
+    struct wire_way ways[WIRE_NOTES]; /* the sources and destinations of the same datagrams, for J1939 */
 };
 
 /* A J1939 message without data. */
@@ -189,7 +189,7 @@ struct wire_empty {
 struct wire_memory {
     uint64_t key;
     char name[WIRE_NAME_ROOM]; /* the name of the socket */
-    uint32_t is_over;          /* the bridge has ended, because no process has the socket any more */
+    uint32_t is_over;          /* the bridge has exited, because no process has the socket any more */
     struct wire_loan loan;
     struct wire_place places[WIRE_PLACES];
     struct wire_notes received;

@@ -62,7 +62,7 @@ static struct {
     volatile sig_atomic_t number; /* the number of a signal that ends the run */
     uint64_t seen_turn;
     int looks, idle_looks;
-    double since; /* since this real time the run has made no progress */
+    double since; /* the real time since which the run has made no progress */
     uint64_t run_before;
 } coordinator = {.root_status = -1};
 

@@ -7,7 +7,7 @@
 
 struct virtual_options {
     uint64_t epoch;  /* the time of the start, in nanoseconds since 1970 */
-    uint64_t until;  /* the end of the run, in nanoseconds of the run; UINT64_MAX: no end */
+    uint64_t until;  /* the end of the run, in nanoseconds of virtual time; UINT64_MAX: no end */
     double stall;    /* how many seconds the run may make no progress */
     uint64_t seed;   /* 0: threads continue in the order of their births */
     uint64_t jitter; /* the largest number of nanoseconds by which a wait is extended */

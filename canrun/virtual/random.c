@@ -98,7 +98,7 @@ void random_read(int fd, const struct iovec *parts, int count, ssize_t length) {
     }
 }
 
-/* ---- the beginning of a pytest test ---- */
+/* ---- the start of a pytest test ---- */
 
 static void note_setting(const char *name, const char *value) {
     if (run && !strcmp(name, TEST)) {

@@ -33,7 +33,7 @@
 
 enum state {
     SLOT_FREE,
-    SLOT_BORN,    /* a thread or process that has been created and has not begun yet */
+    SLOT_BORN,    /* a thread or process that has been created but has not begun yet */
     SLOT_READY,   /* the thread only waits for its turn */
     SLOT_RUNS,    /* the thread has the turn */
     SLOT_WAITS,   /* the thread waits; the other fields describe the wait */
@@ -61,25 +61,25 @@ enum kind {
     KIND_CHILD,
     KIND_SIGNAL,
     KIND_INTERPRETER,
-    KIND_KERNEL /* a file lock, queue or semaphore that only the kernel knows */
+    KIND_KERNEL /* a file lock, queue or semaphore that only the kernel tracks */
 };
 
 /* The first fields are those that are read in all slots whenever the next turn is chosen. */
 struct slot {
-    _Atomic uint32_t go; /* the word that the thread sleeps on: how often it got the turn */
+    _Atomic uint32_t go; /* the word on which the thread sleeps: how often the thread got the turn */
     _Atomic uint32_t state;
     _Atomic uint32_t flags;
     uint32_t rank;       /* the thread with the lowest rank goes first */
-    uint32_t generation; /* the number of the thread's present wait for descriptors */
+    uint32_t generation; /* the number of the thread's current wait for descriptors */
     uint32_t kind;
-    uint32_t tries; /* the thread must look once more before the clock moves, because no thread wakes it */
+    uint32_t tries; /* the thread must poll once more before the clock moves, because no thread wakes it */
     _Atomic uint32_t pid;
-    _Atomic uint64_t deadline; /* nanoseconds of the run, or NEVER */
+    _Atomic uint64_t deadline; /* in nanoseconds of virtual time, or NEVER */
     _Atomic uint64_t key;      /* the key of the lock, child or thread that this thread waits for */
-    uint64_t ticket;           /* its place among the threads that can continue; 0 before it has a place */
+    uint64_t ticket;           /* the thread's position among the threads that can continue; 0: not assigned yet */
     uint64_t number;           /* counts births, or the ages when a test began; random numbers depend on it */
-    uint64_t waits, reads;     /* how often the thread has since waited, and has read random bytes */
-    uint64_t since;            /* the number of this wait in the run; the longest wait is woken first */
+    uint64_t waits, reads;     /* since then, how often the thread has waited and has read random bytes */
+    uint64_t since;            /* the number of this wait in the run; the oldest wait is woken first */
     uint64_t tried;            /* the value of `progress` when the thread last polled */
     uint64_t thread;           /* pthread_self */
     uint64_t go_at;            /* the address of `go` in the thread's process */
@@ -145,7 +145,7 @@ struct run {
     uint64_t jitter;   /* the largest number of nanoseconds by which a timed wait is extended */
     uint64_t terminal; /* the device of the terminal from which the run was started, or 0 */
     uint32_t has_ended;
-    _Atomic uint32_t has_failed; /* a line was printed that says why the run cannot continue */
+    _Atomic uint32_t has_failed; /* a line was printed that explains why the run cannot continue */
     _Atomic uint64_t now __attribute__((aligned(64)));
     _Atomic uint64_t turn;
     _Atomic uint32_t used; /* the number of slots that have ever been used */
@@ -153,13 +153,13 @@ struct run {
     _Atomic uint32_t births; /* the deciding thread sleeps on this word until new threads have begun */
     _Atomic uint64_t waits, tickets;
     _Atomic uint64_t ending;          /* process << 32 | thread of the thread that gave the turn away at its end */
-    _Atomic uint64_t progress;        /* how often a thread began a new wait, or ended */
+    _Atomic uint64_t progress;        /* how often a thread has begun a new wait, or ended */
     _Atomic uint32_t tries;           /* the number of threads in waits that no thread of the run ends */
     _Atomic uint64_t born;            /* how many threads have been born */
-    _Atomic uint64_t moments;         /* how often the clock moved */
-    _Atomic uint64_t spun;            /* nanoseconds that passed because threads read the clock again and again */
+    _Atomic uint64_t moments;         /* how often the clock has moved */
+    _Atomic uint64_t spun;            /* nanoseconds that passed because threads read the clock repeatedly */
     _Atomic uint8_t ports[PORTS / 8]; /* a bit for each TCP port on which a program of the run has listened */
-    _Atomic uint8_t datagram_ports[PORTS / 8]; /* a bit for each UDP port that a program of the run is known to have */
+    _Atomic uint8_t datagram_ports[PORTS / 8]; /* a bit for each UDP port known to belong to a program of the run */
     struct slot slots[SLOTS];
     struct alarm alarms[ALARMS];
     _Atomic uint32_t alarm_count; /* the number of alarms that have ever been used */

@@ -257,7 +257,7 @@ uint32_t next_turn(bool ignores_outside) {
         run->pause = PAUSE_BIRTH;
         return NOBODY;
     }
-    /* A thread of a server that only read memory in its turn has made no descriptor ready. */
+    /* If a thread of a server has only read memory in its turn, it has made no descriptor ready. */
     bool is_quiet = is_server && !my.has_acted;
     if (!is_quiet) {
         collect_events();
@@ -360,7 +360,7 @@ void await_turn(void) {
         if (result == -ETIMEDOUT) {
             check_coordinator();
         } else if (result == -EINTR && !has_turn()) {
-            my.slot->flags |= IS_INTERRUPTED; /* A signal of the C library itself, as for pthread_cancel. */
+            my.slot->flags |= IS_INTERRUPTED; /* A signal of the C library itself, such as that of pthread_cancel. */
             ring();
         }
     }

@@ -31,12 +31,12 @@ enum tries { TRIES_NOT, TRIES, TRIES_ON };
 struct my {
     struct slot *slot;
     uint32_t index;
-    uint32_t is_deciding; /* while nonzero, a signal that comes is handled later */
+    uint32_t is_deciding; /* while nonzero, a signal that arrives is handled later */
     uint32_t handled;     /* how many signals were handled */
     bool has_to_return;   /* a handler during this wait had no SA_RESTART */
     bool is_asynchronous; /* pthread_cancel may end the thread anywhere */
     enum tries tries;     /* whether a thread of the run will end this thread's next wait */
-    bool has_tried;       /* its last wait ended only to poll again, and the poll found nothing */
+    bool has_tried;       /* the thread's last wait ended only to poll again, and the poll found nothing */
     uint32_t born;        /* the slot of a child that the thread is about to create */
     uint32_t looks;
     uint64_t looked_at, step;
