@@ -145,7 +145,7 @@ struct later {
 #define SENT_LATER (-1)
 int room_send(struct session *to, const struct canfd_frame *frame, bool is_fd, const struct later *later);
 
-/* Starts to check the counts of this interface's queue regularly. It is called when the queue had no room. */
+/* Called when this interface's queue had no room: starts to check the counts of the queue regularly. */
 void room_look(int index);
 
 /* Sends the waiting frames for which there is room now. Returns the nanoseconds until the next check, or -1. */

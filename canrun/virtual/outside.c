@@ -231,8 +231,8 @@ static uint64_t times_run(uint32_t pid, uint32_t tid) {
     return proc_usage(pid, tid).times;
 }
 
-/* Returns whether all threads of a process sleep, or only the thread `tid` if that is not 0. Adds how often they ran to
- * `times`. */
+/* Returns whether all threads of a process sleep. If `tid` is not 0, checks only that thread. Adds how often the
+ * checked threads ran to `times`. */
 static bool all_sleep(uint32_t pid, uint32_t tid, uint64_t *times) {
     char path[40];
     bool do_sleep = true;

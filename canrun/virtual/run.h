@@ -78,7 +78,7 @@ struct slot {
     _Atomic uint64_t key;      /* the key of the lock, child or thread that this thread waits for */
     uint64_t ticket;           /* the thread's position among the threads that can continue; 0: not assigned yet */
     uint64_t number;           /* counts births, or the ages when a test began; random numbers depend on it */
-    uint64_t waits, reads;     /* since then, how often the thread has waited and has read random bytes */
+    uint64_t waits, reads;     /* since birth or the test's start: how often it waited and read random bytes */
     uint64_t since;            /* the number of this wait in the run; the oldest wait is woken first */
     uint64_t tried;            /* the value of `progress` when the thread last polled */
     uint64_t thread;           /* pthread_self */
