@@ -1,7 +1,6 @@
 /* The layer between a C program and the proved exports of crates/canbusd_c. It checks pointers for NULL, and contains
- * the texts of the error codes.
- *
- * A bus is the pointer that canbusd_c_new returned. Each export takes this pointer inside a struct handle. */
+ * the error messages for the codes. A bus is the pointer that canbusd_c_new returned. Each export receives this pointer
+ * inside a struct handle. */
 #include "canbusd.h"
 
 #include <string.h>
@@ -193,7 +192,7 @@ void canbusd_bench_free(canbusd_bench *bench) {
         canbusd_c_bench_free((struct handle){bench});
 }
 
-/* Returns whether the caller gave no place for a text or for its length. */
+/* Returns whether the caller passed no buffer for a text, or no pointer for its length. */
 static int has_no_place(const char *text, size_t room, const size_t *len) {
     return len == NULL || (text == NULL && room != 0);
 }

@@ -12,7 +12,8 @@
 
 struct bcm_task *bcm_tasks;
 
-/* Returns the place of the task that a message is about, or the end of the list if there is no such task. */
+/* Returns a pointer to the list link of the task that a message is about, or to the NULL link at the end if there is no
+ * such task. */
 static struct bcm_task **find(const struct bcm_head *head, int index, bool is_rx) {
     struct bcm_task **place = &bcm_tasks;
     while (*place && !((*place)->is_rx == is_rx && (*place)->head.can_id == head->can_id && (*place)->index == index &&
@@ -22,7 +23,7 @@ static struct bcm_task **find(const struct bcm_head *head, int index, bool is_rx
     return place;
 }
 
-/* Sets the filters of the sessions, so that they receive only the frames that the tasks need. */
+/* Sets the filters of the sessions so that they receive only the frames that the tasks use. */
 static int want_all(void) {
     static struct can_filter filters[CAN_RAW_FILTER_MAX];
     size_t count = 0;
@@ -42,7 +43,8 @@ struct rest {
     size_t length;
 };
 
-/* Copies the frames of a message into a task. Missing frames give EFAULT, as memory that cannot be read does. */
+/* Copies the frames of a message into a task. If frames are missing, returns EFAULT, as for memory that cannot be read.
+ */
 static int copy_frames(struct bcm_task *task, const struct bcm_head *head, struct rest rest) {
     const char *data = rest.data;
     size_t each = bcm_frame_size(head->flags);

@@ -1,5 +1,5 @@
-/* Declarations for CAN_BCM: bcm.c handles the writes of a program, and bcm_tasks.c runs the tasks. The rules are those
- * of net/can/bcm.c in the kernel. */
+/* Declarations for CAN_BCM: bcm.c handles the writes of a program, and bcm_tasks.c runs the tasks. The rules are the
+ * same as in net/can/bcm.c in the kernel. */
 #ifndef BCM_H
 #define BCM_H
 
@@ -7,7 +7,7 @@
 
 #include <linux/can/bcm.h>
 
-/* The header of a message: struct bcm_msg_head without the frames after it. */
+/* The header of a message: struct bcm_msg_head without the frames that follow it. */
 struct bcm_head {
     uint32_t opcode, flags, count;
     struct bcm_timeval ival1, ival2;
@@ -16,7 +16,7 @@ struct bcm_head {
 };
 _Static_assert(sizeof(struct bcm_head) == sizeof(struct bcm_msg_head), "the head of linux/can/bcm.h");
 
-/* The last received frame that belongs to one of the frames of an RX task. */
+/* The last received frame that matches one of the frames of an RX task. */
 struct bcm_last {
     struct canfd_frame frame;
     bool is_received, is_held; /* the throttle holds the frame back */
@@ -25,7 +25,7 @@ struct bcm_last {
 struct bcm_task {
     struct bcm_task *next;
     bool is_rx;
-    int index;            /* the task's interface; 0: an RX task of all interfaces */
+    int index;            /* the task's interface; 0: an RX task for all interfaces */
     struct bcm_head head; /* with the current flags, timers and count */
     unsigned at;          /* the index of the frame that is sent next */
     uint64_t due;         /* when the next frame or the timeout is due; 0: never */
@@ -62,7 +62,7 @@ void bcm_inform(const struct bcm_task *task, uint32_t opcode, const struct canfd
 /* Sends the next frame of a task. As in the kernel, errors are not reported. */
 void bcm_send_next(struct bcm_task *task);
 
-/* Returns when the next frame after this moment is due; 0 means never. */
+/* Returns when the first frame after the time `moment` is due; 0 means never. */
 uint64_t bcm_due_after(const struct bcm_task *task, uint64_t moment);
 
 void bcm_receive(const struct item *item, int index);

@@ -1,5 +1,5 @@
-/* CAN_BCM: runs the tasks. A TX task sends its frames repeatedly. An RX task reports a frame that has changed, or that
- * has not arrived in time. */
+/* CAN_BCM: runs the tasks. A TX task sends its frames repeatedly. An RX task reports frames that have changed or have
+ * not arrived in time. */
 #include "bcm.h"
 
 #include <string.h>
@@ -56,7 +56,7 @@ static void hand_over(struct bcm_task *task, struct bcm_last *last, uint64_t mom
     bcm_inform(task, RX_CHANGED, &last->frame, 1, moment, index);
 }
 
-/* Reports a new or changed frame to the program: at once, or at the end of the throttle period. */
+/* Reports a new or changed frame to the program, either at once or at the end of the throttle period. */
 static void has_changed(struct bcm_task *task, struct bcm_last *last, const struct item *item, int index) {
     uint64_t pause = bcm_nanoseconds(task->head.ival2), now = clock_now();
     last->frame = item->frame;
@@ -71,8 +71,8 @@ static void has_changed(struct bcm_task *task, struct bcm_last *last, const stru
     }
 }
 
-/* Called at the end of a throttle period. Reports the frames that were held back. If there were none, the throttle
- * ends. */
+/* Called at the end of a throttle period. Reports the frames that were held back. If there were none, throttling ends.
+ */
 static void release(struct bcm_task *task, uint64_t now) {
     bool has_any = false;
     for (unsigned i = 0; i < (task->head.nframes ? task->head.nframes : 1); i++) {
@@ -85,7 +85,7 @@ static void release(struct bcm_task *task, uint64_t now) {
     task->reported = has_any ? task->reported : 0;
 }
 
-/* Returns whether two frames differ in the bits of the mask. Like the kernel, this compares whole words of 8 bytes. */
+/* Returns whether two frames differ in the bits of the mask. Like the kernel, it compares whole words of 8 bytes. */
 static bool differs(const struct canfd_frame *mask, const struct canfd_frame *one, const struct canfd_frame *other,
                     unsigned length) {
     for (unsigned i = 0; i < (length + 7) / 8 * 8; i++) {
@@ -105,8 +105,8 @@ static void compare(struct bcm_task *task, unsigned at, const struct item *item,
     }
 }
 
-/* Compares a frame for a task with several frames. Frame 0 is the multiplex mask: the received frame is compared with
- * the first frame that has the same bits under this mask. */
+/* Compares a received frame for a task with several frames. Frame 0 is the multiplex mask: the received frame is
+ * compared with the first frame that has the same bits under this mask. */
 static void compare_multiplex(struct bcm_task *task, const struct item *item, int index) {
     for (unsigned i = 1; i < task->head.nframes; i++) {
         if (!differs(&task->frames[0], &item->frame, &task->frames[i], CAN_MAX_DLEN)) {

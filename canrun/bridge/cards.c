@@ -1,5 +1,5 @@
-/* The interfaces of a keeper: the facts that the server reports about each one, and counts that the keeper makes from
- * error message frames. */
+/* The interfaces of a keeper: the properties that the server reports for each interface, and the counts that the keeper
+ * derives from error message frames. */
 #define _GNU_SOURCE
 #include "cards.h"
 
@@ -58,8 +58,8 @@ static uint32_t state_said(const struct canfd_frame *frame) {
                                                : CAN_STATE_ERROR_ACTIVE;
 }
 
-/* Counts an error in the same way as CAN drivers, and sets the state. As in can_change_state of the kernel, a new state
- * is counted only if it is worse. */
+/* Counts an error as CAN drivers do, and sets the state. As in can_change_state in the kernel, a new state is counted
+ * only if it is worse. */
 static void count(struct card *card, const struct canfd_frame *frame) {
     struct link_facts *facts = &card->facts;
     facts->bus_errors += (frame->can_id & CAN_ERR_BUSERROR) != 0;
@@ -135,8 +135,8 @@ void card_read(struct card *card) {
     }
 }
 
-/* Returns whether the reply and all items that were queued before it have arrived. A reply of the server may overtake
- * such items. */
+/* Returns whether the reply and all items that were queued before it have arrived. A reply from the server may overtake
+ * items that were queued earlier. */
 static bool is_whole(const struct card *card) {
     return card->is_answered && card->items >= card->queued;
 }
@@ -172,7 +172,7 @@ static struct card *refuse(struct link_reply *why, int error, const char *text) 
     return NULL;
 }
 
-/* Returns whether errors occurred before this session began. The keeper could not count them. */
+/* Returns whether errors occurred before this session began. The keeper could not count those errors. */
 static bool had_errors(const struct link_facts *facts) {
     bool is_fresh = facts->state == CAN_STATE_ERROR_ACTIVE || facts->state == CAN_STATE_STOPPED;
     return !is_fresh || facts->tec || facts->rec || facts->lost;
@@ -238,7 +238,7 @@ static int command(struct card *card, const char *text, struct link_reply *why) 
     return why->error;
 }
 
-/* Handles a server that is too old to have a command for taking an interface down. The interface stays on the bus; if
+/* Handles a server that is too old to have a command for setting an interface down. The interface stays on the bus; if
  * it is bus off, it restarts. */
 static int stay_up(struct card *card, struct link_reply *why) {
     why->error = 0;

@@ -1,4 +1,4 @@
-/* The error of the socket, like sk_err in the kernel: it is returned by one call, which clears it. */
+/* The error of the socket, like sk_err in the kernel. One call returns the error and clears it. */
 #include "bridge.h"
 
 static int socket_error;

@@ -1,4 +1,4 @@
-/* CAN_ISOTP (ISO 15765-2): the options of a socket, and the writes of its program. */
+/* CAN_ISOTP (ISO 15765-2): the options of a socket, and the program's writes to it. */
 #include "isotp.h"
 
 #include <errno.h>
@@ -6,8 +6,8 @@
 #include <string.h>
 #include <sys/socket.h>
 
-/* The size of the queue of received frames. Frames are queued because nothing can be sent while messages of the server
- * are being read. One read returns at most 1,024 frames. */
+/* The size of the queue of received frames. Frames are queued because nothing can be sent while messages from the
+ * server are being read. One read returns at most 1,024 frames. */
 #define WAITING 8192
 
 struct isotp isotp = {
@@ -21,11 +21,11 @@ struct isotp isotp = {
 static struct item waiting[WAITING];
 static unsigned first_waiting, end_waiting;
 
-/* The reply pipe of the write that is waiting until its message has been sent, or NOBODY. */
+/* The reply pipe of the write that is waiting for its message to be sent, or NOBODY. */
 static int waits_for_end = NOBODY;
 static size_t sent_length;
 
-/* The writes that wait until an earlier message has been sent, the oldest first. */
+/* The writes that wait until an earlier message has been sent, oldest first. */
 #define TURNS 64
 struct turn {
     struct turn *next;
@@ -89,7 +89,7 @@ uint64_t isotp_last_number(void) {
 
 /* ---- options ---- */
 
-/* Returns the address of an option's value, and its size. */
+/* Returns a pointer to the variable of an option, and sets `size` to the variable's size. */
 static void *place_of(int option, size_t *size) {
     switch (option) {
     case CAN_ISOTP_OPTS: *size = sizeof isotp.options; return &isotp.options;
@@ -156,7 +156,7 @@ static int isotp_getsockopt(int option, void *room, uint32_t *length) {
     return 0;
 }
 
-/* Returns whether this is an identifier with no other bits set. */
+/* Returns whether the value is an identifier without other bits. */
 static bool is_identifier(canid_t id) {
     return id == (id & (id & CAN_EFF_FLAG ? CAN_EFF_FLAG | CAN_EFF_MASK : CAN_SFF_MASK));
 }
@@ -184,7 +184,7 @@ static int isotp_bind(const struct sockaddr_can *address) {
     }
     isotp.rx_id = rx_id;
     isotp.tx_id = tx_id;
-    /* The socket receives its own frames too, after they were sent on the bus. */
+    /* The socket also receives its own frames, after they were sent on the bus. */
     struct can_filter wanted[] = {only(tx_id), only(rx_id)};
     int error = raw_want(wanted, is_to_all ? 1 : 2);
     raw_want_fd(isotp.link.mtu == CANFD_MTU);
@@ -220,7 +220,7 @@ static int start(const char *data, size_t length, int reply_to) {
     return error;
 }
 
-/* Queues a write until the messages before it have been sent. */
+/* Queues a write until the preceding messages have been sent. */
 static int queue(const char *data, size_t length, int reply_to) {
     struct turn *turn = malloc(sizeof *turn + length), **last = &turns;
     if (!turn) {
@@ -307,7 +307,7 @@ static void start_next(void) {
     }
 }
 
-/* Handles a received frame: the echo of a frame that this socket sent, or a frame for this socket. */
+/* Handles a received frame, which is either the echo of a frame that this socket sent, or a frame for this socket. */
 static void take_item(const struct item *item) {
     if (item->message_flags & MSG_CONFIRM) {
         isotp_send_echo(item->number);

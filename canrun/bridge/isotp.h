@@ -1,4 +1,4 @@
-/* Declarations for CAN_ISOTP (ISO 15765-2). The rules are those of net/can/isotp.c in the kernel. */
+/* Declarations for CAN_ISOTP (ISO 15765-2). The rules are the same as in net/can/isotp.c in the kernel. */
 #ifndef ISOTP_H
 #define ISOTP_H
 
@@ -8,8 +8,7 @@
 
 /* The maximum length of a message in bytes, as in the kernel. */
 #define ISOTP_LONGEST 66000
-/* How many seconds the other end may be silent, and how many seconds a frame may take until it has been sent on the
- * bus. */
+/* How many seconds the other end may stay silent. A frame must also be sent on the bus within this time. */
 #define ISOTP_TIMEOUT 1
 #define ISOTP_ECHO_TIMEOUT 2
 
@@ -23,14 +22,14 @@ struct isotp {
 };
 extern struct isotp isotp;
 
-/* Returns the flag of a socket that sends to all nodes, without flow control: one of these two flags, or 0. */
+/* Returns the flag of a socket that sends to all nodes without flow control: one of these two flags, or 0. */
 #define ALL_BROADCAST (CAN_ISOTP_SF_BROADCAST | CAN_ISOTP_CF_BROADCAST)
 uint32_t isotp_broadcast(void);
-/* Returns how many bytes of a frame the address takes: 0 or 1. */
+/* Returns how many bytes of a frame the address occupies: 0 or 1. */
 unsigned isotp_address_size(void);
-/* Returns the padded length of a frame that holds this many bytes. */
+/* Returns the padded length of a frame that contains this many bytes. */
 unsigned isotp_padded(unsigned length);
-/* Returns whether a received frame is padded from this byte on in the way that the options require. */
+/* Returns whether a received frame is padded from this byte to its end as the options require. */
 bool isotp_is_well_padded(const struct canfd_frame *frame, unsigned from);
 /* Sends a frame. With --wait the frame may wait for room; the result is then SENT_LATER. */
 int isotp_put(const struct canfd_frame *frame, void (*done)(const struct later *later, int error));
@@ -41,8 +40,8 @@ uint64_t isotp_last_number(void);
 
 struct isotp_timer {
     unsigned steps;  /* how many steps remain */
-    uint64_t due;    /* when this step should be over, by the clock; 0: the timer is off */
-    unsigned rounds; /* how many questions the server was asked after `due` */
+    uint64_t due;    /* when this step should end, by the clock; 0: the timer is off */
+    unsigned rounds; /* how many queries were sent to the server after `due` */
 };
 void isotp_timer_start(struct isotp_timer *timer, unsigned seconds);
 void isotp_timer_stop(struct isotp_timer *timer);
@@ -56,20 +55,21 @@ int isotp_send_start(const char *data, size_t length);
 bool isotp_is_sending(void);
 /* Abandons the message without calling isotp_send_done. */
 void isotp_send_abort(void);
-/* Handles the echo of a frame that this socket has sent, after the frame with this number was sent on the bus. */
+/* Handles the echo of a frame of this socket. The echo shows that the frame with this number was sent on the bus. */
 void isotp_send_echo(uint64_t number);
 void isotp_send_flow_control(const struct canfd_frame *frame);
-/* Sends the frames that are due. Returns when the next frame is due, by the clock, or 0. */
+/* Sends the frames that are due. Returns the time on the clock when the next frame is due, or 0. */
 uint64_t isotp_send_due(void);
-/* Called at the end of a message, with 0 if the last frame was sent on the bus, or else with an errno. This function is
- * in isotp.c. */
+/* Called when a message is finished: with 0 if the last frame was sent on the bus, otherwise with an errno. This
+ * function is in isotp.c. */
 void isotp_send_done(int error);
 
 /* ---- isotp_receive.c ---- */
 
 void isotp_receive_frame(const struct canfd_frame *frame, uint64_t moment);
 bool isotp_is_receiving(void);
-/* Abandons a message if its next frame has not arrived in time. Returns when that time ends, by the clock, or 0. */
+/* Abandons a message if its next frame has not arrived in time. Returns the time on the clock when the wait for that
+ * frame ends, or 0. */
 uint64_t isotp_receive_due(void);
 
 #endif

@@ -56,7 +56,7 @@ static void receive_single(const struct canfd_frame *frame, uint64_t moment) {
     isotp_timer_stop(&rx.timer);
     if (frame->len > CAN_MAX_DLEN) {
         if (length) {
-            return; /* A frame of more than 8 bytes has its length in a separate byte. */
+            return; /* A frame with more than 8 bytes stores its length in a separate byte. */
         }
         length = frame->data[front++];
     }

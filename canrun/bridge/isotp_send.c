@@ -1,4 +1,4 @@
-/* CAN_ISOTP: splits a message into frames, and sends them at the pace that the receiver asks for. */
+/* CAN_ISOTP: splits a message into frames, and sends them at the pace that the receiver requests. */
 #include "isotp.h"
 
 #include <errno.h>
@@ -9,7 +9,7 @@ enum { CONTINUE, WAIT, OVERFLOW_ };
 /* The maximum length of a message whose length field has 12 bits. */
 #define SHORT_LENGTH 4095
 
-/* A frame number that no frame has: the frame is still waiting for room, or could not be sent. */
+/* A number that no frame has. It means that the frame is still waiting for room, or could not be sent. */
 #define NO_FRAME UINT64_MAX
 
 static struct {
@@ -18,10 +18,11 @@ static struct {
     enum { IDLE, WAITS_FIRST, WAITS, SENDING, PAUSES } state;
     char data[ISOTP_LONGEST];
     size_t at, length;
-    unsigned number, block, in_block; /* the next sequence number; frames in a block, and in this block so far */
-    uint64_t frame;                   /* the number of the frame whose echo is due */
-    uint64_t gap, next;               /* the length of the pause before a frame, and when the pause ends */
-    struct isotp_timer timer;         /* the timer for the echo or for flow control */
+    unsigned number, block,
+        in_block;             /* the next sequence number; how many frames are in a block, and in this block so far */
+    uint64_t frame;           /* the number of the frame whose echo is due */
+    uint64_t gap, next;       /* the length of the pause before a frame, and when the pause ends */
+    struct isotp_timer timer; /* the timer for the echo or for flow control */
 } tx;
 
 bool isotp_is_sending(void) {
@@ -34,13 +35,14 @@ static void end(int error) {
     isotp_send_done(error);
 }
 
-/* Starts the timer after a frame has entered the transmit queue. Its echo, or the reply to it, must arrive in time. */
+/* Starts the timer after a frame has entered the transmit queue. The frame's echo, or the reply to the frame, must
+ * arrive in time. */
 static void begin_waiting(void) {
     isotp_timer_start(&tx.timer, tx.state == SENDING ? ISOTP_ECHO_TIMEOUT : ISOTP_TIMEOUT);
 }
 
-/* Called when a frame that had waited for room was sent, or could not be sent. In the latter case its missing echo ends
- * the message, as in the kernel. */
+/* Called when a frame that had waited for room was sent or could not be sent. If it could not be sent, its echo is
+ * missing, which ends the message, as in the kernel. */
 static void sent_late(const struct later *later, int error) {
     (void)later;
     tx.frame = error ? NO_FRAME : isotp_last_number();
@@ -78,7 +80,7 @@ static int put_first(const struct canfd_frame *frame, int state) {
     return error;
 }
 
-/* Fills a frame with the next data of the message. The data begin after `front` bytes, which are for the protocol. */
+/* Fills a frame with the next part of the message. The first `front` bytes are reserved for the protocol header. */
 static void fill(struct canfd_frame *frame, unsigned front) {
     size_t part = MIN(tx.length - tx.at, (size_t)isotp.link.tx_dl - front);
     bool pads = isotp.options.flags & CAN_ISOTP_TX_PADDING;
@@ -142,7 +144,7 @@ int isotp_send_start(const char *data, size_t length) {
     return length <= single ? send_single() : send_first();
 }
 
-/* Returns the pause that a receiver asks for with STmin, in nanoseconds. A reserved value means the longest pause. */
+/* Returns the pause, in nanoseconds, that a receiver requests with STmin. A reserved value means the longest pause. */
 static uint64_t separation(uint8_t stmin) {
     if (isotp.options.flags & CAN_ISOTP_FORCE_TXSTMIN) {
         return isotp.tx_stmin;

@@ -1,11 +1,9 @@
-/* The timers of CAN_ISOTP. In the kernel a timer needs only the clock, because the kernel does not wait for a processor
- * when a frame arrives. Here each server thread that forwards a frame has to wait for a processor, and so does the
- * bridge at the other end.
- *
- * Therefore a timer runs in steps. A step ends when two things have happened. First, the server has replied to several
- * questions in a row, which takes more turns of the processor than a frame and the reply to it. Second, all frames have
- * arrived that the server had received for this socket. So a frame that was on the bus in time is never missed. If no
- * process has to wait for a processor, the questions take less than a millisecond. */
+/* The timers of CAN_ISOTP. In the kernel a timer depends only on the clock, because the kernel does not wait for a
+ * processor when a frame arrives. Here each server thread that forwards a frame has to wait for a processor, and so
+ * does the bridge at the other end. Therefore a timer runs in steps. A step ends when two things have happened. First,
+ * the server has replied to several queries in a row, which takes more scheduling turns than a frame and the reply to
+ * it. Second, all frames that the server had received for this socket have arrived. So a frame that was on the bus in
+ * time is never missed. If no process has to wait for a processor, the queries take less than a millisecond. */
 #include "isotp.h"
 
 #define STEP (SECOND / 10)
@@ -26,7 +24,7 @@ static void ask(struct isotp_timer *timer) {
     timer->rounds++;
 }
 
-/* Returns whether a step has ended. It does not wait for a server that does not reply or is gone. */
+/* Returns whether a step has ended. It does not wait for a server that is gone or does not reply. */
 static bool step_is_over(struct isotp_timer *timer, uint64_t now) {
     if (!timer->rounds && timer->due <= now) {
         ask(timer);

@@ -16,7 +16,7 @@ static size_t filter_count;
 
 /* ---- addresses ---- */
 
-/* Returns false if a PGN has a destination byte that is not 0. */
+/* Returns false if a PGN contains a destination byte that is not 0. */
 static bool is_clean(uint32_t number) {
     return !is_pgn(number) || !has_destination(number) || !(number & 0xff);
 }
@@ -34,7 +34,7 @@ static int change(void) {
     return link_fd() < 0 ? 0 : link_ask(&ask, filters, filter_count * sizeof *filters);
 }
 
-/* Binds the socket in the host. A host that is just ending counts as no host. */
+/* Binds the socket in the host. A host that is just exiting counts as no host. */
 static int join(int index) {
     char name[IFNAMSIZ];
     if (!interface_name(index, name)) {
@@ -180,7 +180,7 @@ static bool set_socket(int option, int number) {
 
 /* ---- writes ---- */
 
-/* Checks a write. These checks come before all others. */
+/* Checks a write before all other checks. */
 static int check_write(const struct wire_j1939 *head) {
     const struct sockaddr_can *to = &head->address;
     bool is_to_all = head->has_address ? !to->can_addr.j1939.name && to->can_addr.j1939.addr == J1939_NO_ADDR
@@ -236,7 +236,8 @@ static int j1939_sendmsg(const struct wire_request *request, const char *data, s
 
 /* ---- messages from the host ---- */
 
-/* Received messages without data. Their datagrams are empty, so the library asks for their source and destination. */
+/* The maximum number of received messages without data that are kept. Their datagrams are empty, so the library
+ * requests their source and destination. */
 #define EMPTIES 64
 static struct wire_empty empties[EMPTIES];
 static unsigned first_empty, empty_count;
@@ -254,7 +255,7 @@ static void take_message(const struct j1939_told *told, const char *data, size_t
     }
 }
 
-/* Called when the server or the host is gone: the socket gets an error and is no longer bound. */
+/* Called when the server or the host is gone. The socket then has an error and is no longer bound. */
 static void leave(void) {
     link_close();
     if (own_index) {
@@ -344,7 +345,7 @@ static int j1939_request(const struct wire_request *request, int reply_to, struc
         if (error == ECONNREFUSED) {
             memcpy(data, &name, reply->length = length);
         }
-        /* The bind request reports all other errors of this interface index. */
+        /* All other errors of this interface index are reported by the bind request. */
         return error == EACCES || error == EMFILE ? error : 0;
     default: return refused(EINVAL, "library and bridge are not of the same version");
     }

@@ -1,5 +1,4 @@
-/* The error queue of a J1939 socket. Its entries are about messages that the socket sends, and about messages that it
- * receives. */
+/* The error queue of a J1939 socket. Its entries report on messages that the socket sends or receives. */
 #include "j1939.h"
 
 #include <linux/net_tstamp.h>
@@ -7,7 +6,7 @@
 #include <unistd.h>
 #include <poll.h>
 
-/* The maximum number of entries. The kernel has the same limit for a socket of the usual size. */
+/* The maximum number of entries. The kernel has the same limit for a socket with the default buffer size. */
 #define MOST 256
 /* The maximum number of pipes on which processes wait for an error. */
 #define WATCHERS 64

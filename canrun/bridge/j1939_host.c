@@ -1,6 +1,6 @@
-/* The host of an interface: a process that the J1939 sockets of the interface share, with one session with the server.
- * The library starts the host for the first socket, and the bridges of the sockets connect to its abstract name. The
- * host ends after the last socket is closed. */
+/* The host of an interface: a process that all J1939 sockets of the interface share, with one session with the server.
+ * The library starts the host for the first socket, and the bridges of the sockets connect to its abstract socket name.
+ * The host exits after the last socket is closed. */
 #define _GNU_SOURCE
 #include "j1939_host.h"
 
@@ -14,11 +14,11 @@
 #include <unistd.h>
 
 #define MEMBERS 1000
-/* The size of the queue of received frames. Frames are queued because nothing can be sent while messages of the server
- * are being read. */
+/* The size of the queue of received frames. Frames are queued because nothing can be sent while messages from the
+ * server are being read. */
 #define WAITING 8192
-/* How many questions the server must answer before a transfer or a claim is timed out. A frame and the reply to it
- * would arrive in that time, so a frame that was on the bus in time is not missed on a busy machine. */
+/* How many queries the server must answer before a transfer or a claim times out. A frame and the reply to it arrive
+ * within that time, so a frame that was on the bus in time is not missed on a busy machine. */
 #define ROUNDS 10
 #define PAUSE MILLISECOND
 
@@ -31,7 +31,7 @@ static bool asks_for_claims(const struct wire_way *way, const uint8_t *data, siz
     return way->pgn == J1939_PGN_REQUEST && length >= 3 && number_at(data, 3) == J1939_PGN_ADDRESS_CLAIMED;
 }
 
-/* Checks the address claim of a socket, and takes away any other address that the name had. */
+/* Checks the address claim of a socket, and removes any other address that the name had. */
 static int resolve_claim(const struct wire_way *way, const uint8_t *data, size_t length) {
     uint64_t name = 0;
     memcpy(&name, data, MIN(length, sizeof name));
@@ -85,8 +85,8 @@ int host_put(const struct wire_way *way, const uint8_t *data, size_t length, uin
     return error;
 }
 
-/* Sets the names of a received frame's source and destination. An address claim contains its name; the claimed address
- * is recorded. */
+/* Sets the names of a received frame's source and destination. An address claim contains the name of its sender; the
+ * claimed address is recorded. */
 static void name_heard(struct heard *heard) {
     struct wire_way *way = &heard->way;
     if (way->pgn != J1939_PGN_ADDRESS_CLAIMED) {
@@ -156,7 +156,7 @@ static void take_waiting(void) {
 /* All frames that were on the bus before this time have been handled. */
 static uint64_t known;
 
-/* Asks the server for the frames up to now. Returns how many nanoseconds to wait before the next call. */
+/* Requests the frames up to now from the server. Returns after how many nanoseconds to call it again. */
 static int64_t learn(uint64_t now) {
     static uint64_t asked_at;
     static unsigned rounds;
@@ -224,7 +224,7 @@ bool host_is_asked(void) {
            !memcmp(name.sun_path + 1, J1939_NAME, sizeof J1939_NAME - 1);
 }
 
-/* Returns the index of the interface, whose name is the last part of the socket's name. */
+/* Returns the index of the interface that is named in the last part of the socket's name. */
 static int interface_asked(void) {
     struct sockaddr_un name = {0};
     socklen_t length = sizeof name - 1;
@@ -233,7 +233,7 @@ static int interface_asked(void) {
     return slash ? interface_index(slash + 1) : 0;
 }
 
-/* The listening socket to which bridges connect, or -1 after the last bridge has left. */
+/* The listening socket to which bridges connect, or -1 after the last bridge has disconnected. */
 static int door = PROGRAM;
 
 void host_close(void) {
@@ -243,7 +243,7 @@ void host_close(void) {
     door = -1;
 }
 
-/* Opens a session with the interface that receives all extended frames, including those that the host sends. */
+/* Opens a session on the interface. It receives all extended frames, including those that the host sends. */
 static int open_interface(void) {
     const struct can_filter all = {CAN_EFF_FLAG, CAN_EFF_FLAG | CAN_RTR_FLAG};
     raw_want_own();
@@ -251,7 +251,7 @@ static int open_interface(void) {
     return error ? error : sessions_bind(interface_asked());
 }
 
-/* Accepts the connection of a bridge, but only from the user who started this process. */
+/* Accepts a bridge's connection, but only from the user who started this process. */
 static void let_in(void) {
     struct ucred peer = {0};
     int fd = accept4(door, NULL, NULL, SOCK_CLOEXEC | SOCK_NONBLOCK);

@@ -34,7 +34,7 @@ void link_close(void) {
     fd = -1;
 }
 
-/* Continues an FNV-1a hash with a text. The hashed texts identify the server and, in virtual time, the run. */
+/* Updates an FNV-1a hash with a string. The hashed strings identify the server and, in virtual time, the run. */
 static uint64_t hash_of(const char *text, uint64_t hash) {
     for (; text && *text; text++) {
         hash = (hash ^ (uint8_t)*text) * 0x100000001b3;
@@ -102,7 +102,7 @@ static void keep(const struct j1939_told *told, size_t length) {
     }
 }
 
-/* Waits for the host's reply. Returns its error. */
+/* Waits for the host's reply. Returns the error in the reply. */
 static int reply(void) {
     static char why[256];
     struct j1939_told told;

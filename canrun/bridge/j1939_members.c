@@ -9,7 +9,7 @@
 #include <sys/uio.h>
 #include <unistd.h>
 
-/* The maximum number of messages that wait for a bridge that does not read. Further messages are lost, as for a socket
+/* The maximum number of messages that wait for a bridge that does not read. Further messages are lost, as with a socket
  * whose buffer is full. */
 #define BACKLOG 1024
 
@@ -145,8 +145,8 @@ static int send_of(struct member *member, const struct j1939_ask *ask, const voi
     return 0;
 }
 
-/* Handles a socket that leaves. The last socket closes the listening socket first, so that a later socket does not get
- * this host with its outdated tables. */
+/* Handles a socket that leaves. For the last socket, it first closes the listening socket, so that a later socket does
+ * not get this host with its outdated tables. */
 static void leave(struct member *member) {
     unbind(member);
     if (member_count == 1) {

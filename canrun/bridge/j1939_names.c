@@ -1,6 +1,6 @@
 /* The names of J1939 nodes and the addresses that the nodes have claimed, as in net/can/j1939/bus.c and address-claim.c
- * in the kernel. An address claim becomes valid if it is not contested for 250 ms. For the host's own claims this time
- * starts when they were on the bus. */
+ * in the kernel. An address claim becomes valid if it is not contested for 250 ms. For the host's own claims these 250
+ * ms start when the claim was on the bus. */
 #include "j1939_host.h"
 
 #include <errno.h>
@@ -118,7 +118,8 @@ bool names_claim(uint64_t name, uint8_t address) {
     return node;
 }
 
-/* Handles the claim of this address by a node. Another node that has the address keeps it only if its name is lower. */
+/* Handles a node's claim of this address. If another node has the address, it keeps the address only if its own name is
+ * lower. */
 static void contest(struct node *node, uint8_t address, uint64_t moment) {
     if (node->address != address) {
         take_address(node);

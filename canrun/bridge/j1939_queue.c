@@ -44,7 +44,7 @@ static enum transfer_kind kind_of(uint32_t size) {
     return size <= ONE_FRAME ? TRANSFER_SIMPLE : size <= TP_LONGEST ? TRANSFER_TP : TRANSFER_ETP;
 }
 
-/* Returns 0 if a message with this destination and size may be sent, or else an errno. */
+/* Returns 0 if a message with this destination and size may be sent, otherwise an errno. */
 static int check(const struct wire_way *way, uint32_t size) {
     if (is_of_transport(way->pgn)) {
         return refused(EDOM, "this group is that of transfers themselves");

@@ -1,12 +1,12 @@
 /* CAN_J1939: handles received frames of transfers, including frames that this host has sent. As in the kernel, a sent
- * frame counts only after it was on the bus. If a transfer is between two sockets of one interface, both its sender and
- * its receiver are here. */
+ * frame counts only after it was on the bus. For a transfer between two sockets of one interface, this host has both
+ * the sender and the receiver. */
 #include "j1939_host.h"
 
 #include <stddef.h>
 #include <string.h>
 
-/* How many milliseconds to wait for the next frame. */
+/* How many milliseconds to wait for the next frame, depending on its kind. */
 enum { REPLY_TIME = 1250, DATA_TIME = 750, HOLD_TIME = 550 };
 
 static uint32_t group_of(const uint8_t *data) {
@@ -48,7 +48,7 @@ static void cancel(struct transfer *transfer, uint8_t reason) {
 
 /* ---- the start of a transfer ---- */
 
-/* Returns the abort reason if a transfer of this size cannot begin, or 0 if it can. */
+/* Returns the abort reason if a transfer of this size cannot begin, otherwise 0. */
 static uint8_t reason_for_size(enum transfer_kind kind, uint32_t size) {
     if (kind == TRANSFER_ETP) {
         return size > ETP_LONGEST || size <= TP_LONGEST ? ABORT_FAULT : size > WIRE_LARGEST_J1939 ? ABORT_RESOURCE : 0;
@@ -87,7 +87,7 @@ static struct transfer *begin(const struct heard *heard, enum transfer_kind kind
     return transfer;
 }
 
-/* Handles a repeated request for an active transfer. Returns false if nothing more is to be done for the request. */
+/* Handles a repeated request for an active transfer. Returns false if the request needs no further handling. */
 static bool request_again(struct transfer *transfer, const struct heard *heard) {
     if (!transfer->is_sent) {
         if (is_of_other_group(transfer, heard)) {
@@ -215,7 +215,8 @@ static void take_command(const struct heard *heard, enum transfer_kind kind) {
         return;
     }
     /* A reply (CTS or DONE) that is addressed to this host belongs to a transfer that the host sends. Any other command
-     * to it belongs to a transfer that it receives. For commands from this host it is the other way round. */
+     * addressed to this host belongs to a transfer that the host receives. For commands that this host sent, it is the
+     * other way round. */
     bool is_reply = command != ETP_OFFSET && command != ABORT;
     for (int side = 0; side < 2; side++) {
         bool is_sent = is_reply ? side : !side;
@@ -248,7 +249,7 @@ static bool awaits_data(const struct transfer *transfer) {
     }
 }
 
-/* Returns the number of a packet, from 0 on, or UINT32_MAX if there is no room for the packet. */
+/* Returns the index of a packet, starting at 0, or UINT32_MAX if there is no room for the packet. */
 static uint32_t place_of(const struct transfer *transfer, const uint8_t *data) {
     int64_t packet = (int64_t)data[0] - 1 + transfer->offset;
     bool fits = packet >= 0 && packet <= transfer->total && transfer->received < transfer->total &&

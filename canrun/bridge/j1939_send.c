@@ -4,8 +4,8 @@
 #include <errno.h>
 #include <string.h>
 
-/* Times in milliseconds: between two packets to all nodes; for a reply; for the echo of a frame from the bus; and for
- * the echo of a message of one frame. */
+/* Times in milliseconds: the pause between two packets to all nodes, and the timeouts for a reply, for the echo of a
+ * frame, and for the echo of a one-frame message. */
 enum { PAUSE_TO_ALL = 50, REPLY_TIME = 1250, ECHO_TIME = 250, SIMPLE_TIME = 10000 };
 
 bool is_of_transport(uint32_t pgn) {
@@ -31,7 +31,7 @@ int errno_of_abort(uint8_t reason) {
     return reason < sizeof known / sizeof *known ? known[reason] : EPROTO;
 }
 
-/* Returns the way of a reply: source and destination are swapped. */
+/* Returns the source and destination for a reply, which are swapped. */
 static struct wire_way back(const struct wire_way *way) {
     struct wire_way result = *way;
     result.name = way->to_name;
@@ -125,7 +125,7 @@ static int send_packet(struct transfer *transfer) {
     return error;
 }
 
-/* Sends the remaining packets of the block, as far as there is data and room. To all nodes it sends only one packet at
+/* Sends the remaining packets of the block, as far as there is data and room. To all nodes, it sends only one packet at
  * a time. */
 static int send_packets(struct transfer *transfer) {
     uint32_t end = is_to_all(&transfer->way) ? transfer->total : transfer->last, before = transfer->sent;

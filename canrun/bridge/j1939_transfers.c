@@ -1,13 +1,13 @@
-/* The transfers of J1939: messages of one or several frames, to and from all sockets of an interface. The transfers of
- * a socket begin one after another. Two transfers between the same ends are never active at the same time. */
+/* The transfers of J1939: messages of one or more frames, to and from all sockets of an interface. The transfers of a
+ * socket begin one after another. Two transfers between the same ends are never active at the same time. */
 #include "j1939_host.h"
 
 #include <errno.h>
 #include <stdlib.h>
 #include <string.h>
 
-/* Milliseconds: how long an aborted transfer is kept, and the pause before a refused frame is sent again, which is 10
- * to 25. */
+/* Times in milliseconds: how long an aborted transfer is kept, and the pause before a refused frame is sent again,
+ * which is 10 to 25. */
 enum { ABORT_TIME = 500, LEAST_PAUSE = 10, PAUSES = 16, RETRIES = 100 };
 
 static struct transfer *active, **active_end = &active;
@@ -39,7 +39,7 @@ void transfer_drop_old(struct transfer *transfer) {
     }
 }
 
-/* Frees a transfer if nothing more will happen to it. Like the kernel, it reports the end of the transfer only now. */
+/* Frees a transfer if nothing more will happen to it. Like the kernel, it reports the end of the transfer only then. */
 void transfer_settle(struct transfer *transfer) {
     bool is_used = transfer->is_queued || transfer->send_at != NEVER || transfer->due != NEVER ||
                    transfer->state == TRANSFER_ACTIVE || transfer->state == TRANSFER_ABORTING;
@@ -135,7 +135,7 @@ void transfer_stop(struct transfer *transfer) {
     transfer->send_at = transfer->due = NEVER;
 }
 
-/* Continues a transfer after a pause. The pause varies, so that two senders do not collide again and again. */
+/* Continues a transfer after a pause. The pause is random, so that two senders do not collide repeatedly. */
 void transfer_try_again(struct transfer *transfer) {
     static uint32_t state = 1;
     state = state * 1664525u + 1013904223u;
@@ -229,7 +229,7 @@ static void time_out(struct transfer *transfer) {
     transfer_settle(transfer);
 }
 
-/* Handles a frame that was refused for another reason than lack of room. */
+/* Handles a frame that was refused for a reason other than lack of room. */
 static void fail(struct transfer *transfer, int error) {
     if (error == ENETDOWN) {
         return; /* The transfer will time out. */

@@ -1,5 +1,5 @@
-/* The writes of a J1939 socket. The bytes of a message go to the host as far as SO_SNDBUF has room for their segments,
- * and the write waits until there is room for the rest. */
+/* The writes of a J1939 socket. The bytes of a message are passed to the host as far as SO_SNDBUF has room for their
+ * segments. The write waits until there is room for the rest. */
 #include "j1939.h"
 
 #include <errno.h>
@@ -11,8 +11,8 @@
 #define TURNS 64
 /* The maximum number of requests that are left in the socket. */
 #define KEPT 64
-/* The numbers from which cost_of computes how many bytes the kernel counts for a segment. The size of a kernel buffer
- * is a power of two, and a part of the buffer does not hold data. */
+/* The constants with which cost_of computes how many bytes the kernel counts for a segment. The size of a kernel buffer
+ * is a power of two, and part of the buffer does not hold data. */
 #define BUFFER_HEAD 256
 #define BUFFER_LEAST 512
 #define BUFFER_OTHER 384
@@ -32,7 +32,7 @@ struct turn {
 static struct turn *turns;
 static unsigned turn_count;
 
-static uint32_t keys, keys_before; /* the number of messages so far, and its value when counting restarted */
+static uint32_t keys, keys_before; /* how many messages there were so far, and how many when counting restarted */
 static unsigned pending;           /* how many messages have not ended yet */
 static int used, room = ROOM_MOST;
 /* The key of a message whose remaining bytes come with the next write. */
@@ -86,7 +86,8 @@ void writes_end(uint32_t key) {
     }
 }
 
-/* Returns how many bytes of a write have room, and sets `cost` to what they count against SO_SNDBUF. */
+/* Returns how many bytes of a write there is room for, and sets `cost` to the number of bytes that they count against
+ * SO_SNDBUF. */
 static size_t fitting(const struct turn *turn, int *cost) {
     size_t length = 0, left = turn->length - turn->done;
     *cost = 0;
@@ -101,7 +102,7 @@ static size_t fitting(const struct turn *turn, int *cost) {
     return length;
 }
 
-/* Sends the next bytes of a write to the host. Returns 0, or an errno. */
+/* Passes the next bytes of a write to the host. Returns 0, or an errno. */
 static int hand_on(struct turn *turn, size_t length, int cost) {
     struct j1939_ask ask = {
         .kind = ASK_SEND, .key = turn->key, .size = turn->size, .is_first = turn->is_first, .way = turn->way};
@@ -109,8 +110,7 @@ static int hand_on(struct turn *turn, size_t length, int cost) {
     if (error && error != EBUSY) {
         return error;
     }
-    /* EBUSY means that another message is active. This message counts as begun nevertheless, and its end will be
-     * reported. */
+    /* EBUSY means that another message is active. This message still counts as begun, and its end will be reported. */
     used += cost;
     pending += turn->is_first;
     keys += turn->is_first;
@@ -122,8 +122,8 @@ static int hand_on(struct turn *turn, size_t length, int cost) {
     return error;
 }
 
-/* Continues a write as far as there is room. Returns 0 if all bytes were sent to the host, SENT_LATER if the write has
- * to wait, or an errno. */
+/* Continues a write as far as there is room. Returns 0 if all bytes were passed to the host, SENT_LATER if the write
+ * has to wait, or an errno. */
 static int go_on(struct turn *turn) {
     bool is_over = false;
     while (!is_over) {
@@ -145,7 +145,8 @@ static int go_on(struct turn *turn) {
     return 0;
 }
 
-/* Replies to a write. If it has waited in vain, the result is the number of bytes that were sent to the host. */
+/* Replies to a write. If the write has waited in vain, the result is the number of bytes that were passed to the host.
+ */
 static void finish(const struct turn *turn, int error) {
     bool is_part = turn->done && (error == EAGAIN || error == EINTR);
     request_reply(turn->reply_to, is_part ? 0 : error, (int)turn->done | (writes_are_full(0) ? WIRE_FULL : 0));

@@ -1,5 +1,5 @@
-/* The keeper of the interfaces (see ../shared/link.h): waits for requests, for input of its sessions, and for the time
- * of restarts. */
+/* The keeper of the interfaces (see ../shared/link.h). It waits for requests, for input from its sessions, and for the
+ * times of restarts. */
 #define _GNU_SOURCE
 #include "cards.h"
 
@@ -18,8 +18,8 @@
 #include <sys/un.h>
 #include <unistd.h>
 
-/* The maximum number of interfaces that get a session when a program watches all interfaces. It is limited because the
- * server has only 64 sessions. */
+/* The maximum number of interfaces that get a session when a program watches all interfaces. The limit exists because
+ * the server accepts only 64 sessions. */
 #define WATCHED_MOST 16
 
 /* ---- changes ---- */
@@ -40,7 +40,7 @@ static int check_rate(uint32_t asked, uint32_t rate, const char *option, struct 
     return refuse(reply, EINVAL, text);
 }
 
-/* Checks the requested bit rates. If the bus has no bit rates, the request changes nothing and its reply contains a
+/* Checks the requested bit rates. If the bus has no bit rates, the request changes nothing and the reply contains a
  * note. */
 static int check_rates(const struct link_request *asked, const struct link_facts *facts, struct link_reply *reply) {
     if (asked->bitrate && !facts->bitrate) {
@@ -55,7 +55,7 @@ static int check_rates(const struct link_request *asked, const struct link_facts
     return error ? error : check_rate(asked->data_bitrate, facts->data_bitrate, "dbitrate", reply);
 }
 
-/* Checks the requested modes. Each interface has FD mode, and no other mode. */
+/* Checks the requested modes. Every interface has FD mode and no other mode. */
 static int check_modes(const struct link_request *asked, struct link_reply *reply) {
     uint32_t on = asked->modes & asked->modes_changed, off = ~asked->modes & asked->modes_changed;
     if (on & CAN_CTRLMODE_BERR_REPORTING) {
@@ -159,7 +159,7 @@ static int watch(int fd, pid_t process, struct link_reply *reply) {
     return why.error ? refuse(reply, why.error, why.text) : 0;
 }
 
-/* Sends an event to each watcher through its own socket, in the same way as the library sends an answer. */
+/* Sends an event to each watcher through the watcher's own socket, as the library sends an answer. */
 static void put_event(int index, const struct card *card) {
     struct {
         struct nlmsghdr head;
@@ -188,7 +188,7 @@ static bool has_cards(void) {
 
 /* ---- requests ---- */
 
-/* Writes the current facts of the requested interfaces, except those that have no session. */
+/* Writes the current properties of the requested interfaces, except of those that have no session. */
 static void look(const struct link_request *asked, struct link_reply *reply) {
     for (int i = 0; i < INTERFACE_MOST; i++) {
         struct link_reply ignored;
@@ -226,8 +226,8 @@ static void carry_out(const struct link_request *asked, int fd, pid_t process, s
     }
 }
 
-/* Reads the request from a connection, and the file descriptor that may come with it. Returns false if no request
- * arrives within a second. */
+/* Reads a request from a connection, and the file descriptor that may come with the request. Returns false if no
+ * request arrives within a second. */
 static bool read_request(int connection, struct link_request *request, int *fd) {
     union {
         char room[CMSG_SPACE(sizeof(int))];
@@ -253,7 +253,7 @@ static void serve(void) {
     struct ucred peer = {.uid = (uid_t)-1};
     int connection = accept4(PROGRAM, NULL, NULL, SOCK_CLOEXEC), fd;
     if (connection < 0) {
-        return; /* The process that asked is gone. */
+        return; /* The process that sent the request is gone. */
     }
     getsockopt(connection, SOL_SOCKET, SO_PEERCRED, &peer, &(socklen_t){sizeof peer});
     if (peer.uid == geteuid() && read_request(connection, &request, &fd)) {
@@ -266,7 +266,8 @@ static void serve(void) {
 
 /* ---- the loop ---- */
 
-/* Restarts an interface if its restart is due, and sends its events. Returns when the next restart is due. */
+/* Restarts an interface if its restart is due, and sends the interface's events. Returns when the next restart is due.
+ */
 static uint64_t do_due(int index, struct card *card) {
     if (card->restart_at <= clock_now()) {
         card->restart_at = NEVER;
@@ -329,7 +330,7 @@ void keeper_run(void) {
     if (poll(&polled, 1, PATIENCE * 1000) > 0) {
         serve();
     }
-    /* The keeper learns only from its sessions that the server has ended, so without a session it ends too. */
+    /* The keeper is notified of the server's end only through its sessions. So it exits too when it has no session. */
     while (has_cards() && do_next()) {
     }
 }

@@ -48,14 +48,14 @@ static void leave_program(void) {
     if (null > WIRE_MEMORY) {
         close(null);
     }
-    /* The program's limit on file descriptors is not meant for the bridge. */
+    /* The program's limit on file descriptors should not apply to the bridge. */
     if (!getrlimit(RLIMIT_NOFILE, &limit)) {
         limit.rlim_cur = limit.rlim_max;
         setrlimit(RLIMIT_NOFILE, &limit);
     }
     setsid();
     if (chdir("/")) {
-        /* The program's directory then stays in use. */
+        /* If this fails, the program's directory stays in use. */
     }
     for (int number = 1; number < NSIG; number++) {
         signal(number, SIG_DFL);
@@ -69,8 +69,8 @@ static int64_t sooner(int64_t one, int64_t other) {
     return one < 0 ? other : other < 0 ? one : MIN(one, other);
 }
 
-/* While this runs, items may arrive together with the verdict on a frame that is sent here. So the loop repeats until
- * order_due has asked the sessions about these items. */
+/* While this function runs, items may arrive together with the verdict on a frame that is sent here. So the loop
+ * repeats until order_due has queried the sessions about these items. */
 static int64_t do_due(void) {
     int64_t due;
     do {
@@ -80,19 +80,20 @@ static int64_t do_due(void) {
     return sooner(due, outbox_counts_due());
 }
 
-/* Returns whether an accepted message has not been sent yet. Frames that wait for room are dropped after a while. */
+/* Returns whether an accepted message has not been sent yet. Frames that wait for room are dropped after PATIENCE
+ * seconds. */
 static bool is_busy(uint64_t closed) {
     return protocol_is_busy() || (room_has_unasked() && clock_now() - closed < PATIENCE * SECOND);
 }
 
-/* Returns whether a signal has ended the wait of a close. The message is then abandoned, as in the kernel. */
+/* Returns whether a signal has interrupted a close that waits. The message is then abandoned, as in the kernel. */
 static bool close_is_over(void) {
     struct pollfd polled = {close_waiter_fd(), POLLIN, 0};
     return polled.fd >= 0 && poll(&polled, 1, 0) > 0;
 }
 
-/* Serves the socket until it is closed and all accepted messages have been sent. After the server is gone, the socket
- * has an error and is no longer bound. */
+/* Serves the socket until it is closed and all accepted messages have been sent. If the server is gone, the socket gets
+ * an error and is no longer bound. */
 static void serve(void) {
     uint64_t closed = 0;
     for (;;) {
@@ -112,7 +113,7 @@ static void serve(void) {
     }
 }
 
-/* Finds the protocol for the digit in the socket's name. Returns false if there is none. */
+/* Finds the protocol for the digit in the socket's name. Returns false if there is no such protocol. */
 static bool find_protocol(char digit) {
     protocol = digit >= '0' && digit < '0' + CAN_NPROTO ? protocols[digit - '0'] : NULL;
     return protocol;

@@ -1,7 +1,7 @@
 /* Merges the items of a socket's sessions in the order of their timestamps. The server sends to each session
- * separately, so an item must wait as long as another session may still deliver an older one. After an item has
- * arrived, the bridge asks each session how many items the server had queued for it. The item is passed on when all
- * these items have arrived. */
+ * separately, so an item must wait as long as another session may still deliver an older item. After an item has
+ * arrived, the bridge queries from each session how many items the server had queued for it. The item is passed on when
+ * all these items have arrived. */
 #include "../shared/planted.h"
 #include "bridge.h"
 
@@ -10,7 +10,7 @@
 
 /* The maximum number of waiting items. If there are more, the items are passed on without waiting. */
 #define HELD 4096
-/* How many nanoseconds to wait before a question is repeated that could not be sent for lack of room. */
+/* How many nanoseconds to wait before repeating a query that could not be sent for lack of room. */
 #define PAUSE 1000000
 
 static struct held {
@@ -20,7 +20,7 @@ static struct held {
                       has the same rank at each interface */
 } held[HELD];
 static unsigned count;
-/* Whether the sessions are being asked about items up to the timestamp `until`. */
+/* Whether the sessions are being queried about items up to the timestamp `until`. */
 static bool is_open;
 static uint64_t until;
 
@@ -90,7 +90,7 @@ void order_flush(void) {
     release(UINT64_MAX);
 }
 
-/* Begins to ask all sessions about the items up to now. */
+/* Starts to query all sessions about the items up to now. */
 static void ask_all(void) {
     until = 0;
     for (unsigned i = 0; i < count; i++) {

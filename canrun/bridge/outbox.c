@@ -9,23 +9,24 @@
 #include <sys/socket.h>
 
 #define RING 1048576
-/* How many messages may wait for a program that has set no limit. At most this many more are in its socket. */
+/* How many messages may wait for a program that has set no limit. The program's socket contains at most this many more.
+ */
 #define USUAL_ROOM 4096
-/* If this many messages wait, the server holds back further items. The remaining room is for items that arrive together
- * with replies to commands. */
+/* If this many messages are waiting, the server holds back further items. The remaining room is for items that arrive
+ * together with replies to commands. */
 #define CROWDED 2048
-/* The number of messages that may wait for a program that has set SO_RCVBUF, and so accepts that frames are lost. */
+/* How many messages may wait for a program that has set SO_RCVBUF and so accepts the loss of frames. */
 #define SMALL_ROOM 64
 /* Half of the bytes that the kernel counts for one frame in SO_RCVBUF. */
 #define FRAME_ROOM 384
-/* The maximum number of messages that are sent by one system call. */
+/* The maximum number of messages that are sent with one system call. */
 #define BATCH 32
-/* When to ask the server for its count of lost frames: after this many frames, or this many nanoseconds after the first
- * of them. */
+/* When to request the count of lost frames from the server: after this many frames, or this many nanoseconds after the
+ * first of these frames. */
 #define COUNT_FRAMES 256
 #define COUNT_PAUSE 20000000
 
-/* In the ring, a message consists of its note and its data. Each part begins at a multiple of PLACE. */
+/* In the ring, a message consists of its note and its data. Each part is aligned to a multiple of PLACE bytes. */
 #define PLACE 8
 static char ring[RING] __attribute__((aligned(PLACE)));
 /* The messages begin at `first`. If `end` is not greater than `first`, they run up to `wrap` and continue at 0. */
@@ -33,15 +34,16 @@ static size_t first, end, wrap;
 static unsigned count, room = USUAL_ROOM;
 static uint32_t dropped, dropped_before;
 static bool is_full, is_small;
-/* The number and the total length of the datagrams that were put into the program's socket. */
+/* The number and the total length of the datagrams that were written to the program's socket. */
 static uint64_t put_count, put_bytes;
-/* Whether the program's socket has no room until poll reports it. In virtual time another try costs a system call. */
+/* Whether the program's socket has no room until poll reports room. In virtual time another attempt costs a system
+ * call. */
 static bool is_blocked;
 static bool is_counted, is_stamped;
 static unsigned uncounted;
 static uint64_t count_at;
 
-/* The size of the source and destination before a message's data, or 0 if the messages of the protocol have none. */
+/* The size of the source and destination that precede a message's data, or 0 if the protocol's messages have none. */
 static size_t way_size;
 
 static size_t size_of(size_t length) {
@@ -52,7 +54,7 @@ static struct wire_note *note_at(size_t at) {
     return (struct wire_note *)(void *)(ring + at);
 }
 
-/* Reserves a place in the ring for a message of this length. Returns NULL if there is no room. */
+/* Reserves space in the ring for a message of this length. Returns NULL if there is no room. */
 static struct wire_note *place_for(size_t length) {
     size_t size = size_of(length), at = end;
     if (count == 0) {
@@ -74,7 +76,7 @@ static char *data_of(struct wire_note *note) {
     return (char *)(note + 1) + way_size;
 }
 
-/* Adds a message to the ring. Returns its place, or NULL if the message is lost. */
+/* Adds a message to the ring. Returns the message's note, or NULL if the message is lost. */
 static struct wire_note *put(const void *data, size_t length, const struct wire_note *note) {
     struct wire_note *place = place_for(length);
     if (!place) {
@@ -145,7 +147,7 @@ static uint64_t write_note(struct wire_note *note, uint64_t *notes, uint64_t byt
     return bytes + note->length;
 }
 
-/* Prepares the next messages for sending, and writes their notes. Returns the number of these messages. */
+/* Prepares the next messages for sending, and writes their notes. Returns how many messages it prepared. */
 static unsigned lay_out(struct mmsghdr messages[BATCH], struct iovec parts[BATCH]) {
     uint64_t notes = put_count, bytes = put_bytes;
     unsigned batch = MIN(count, BATCH);
@@ -209,7 +211,7 @@ bool outbox_is_empty(void) {
 }
 
 /* Sets the room for received frames (SO_RCVBUF). For a Unix socket the kernel counts datagrams at the sending end, so
- * this sets SO_SNDBUF of the bridge's end. Frames beyond the number of notes wait in the ring. */
+ * this function sets SO_SNDBUF of the bridge's end. Frames that exceed the number of notes wait in the ring. */
 static void set_room(int option, int number) {
     int most = MIN(number, WIRE_ROOM / 2), beyond = (number - most) / FRAME_ROOM;
     setsockopt(PROGRAM, SOL_SOCKET, option == SO_RCVBUF ? SO_SNDBUF : SO_SNDBUFFORCE, &most, sizeof most);

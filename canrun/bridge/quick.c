@@ -1,4 +1,4 @@
-/* Quick writes: the reply to a quick write comes in memory that this bridge shares with the program. See
+/* Quick writes: the reply to a quick write is stored in memory that this bridge shares with the program. See
  * library/quick.c. */
 #define _GNU_SOURCE
 #include "bridge.h"
@@ -13,7 +13,7 @@
 #include <sys/syscall.h>
 #include <unistd.h>
 
-/* Returns the session that may be lent, or NULL. A session may be lent only if it is the socket's only one. */
+/* Returns the session that may be lent, or NULL. A session may be lent only if it is the socket's only session. */
 static struct session *session_to_lend(void) {
     bool is_one = is_virtual() && session_count == 1 && is_bound && sessions[0]->index == bound_index;
     return is_one && sessions[0]->fd >= 0 && sessions[0]->is_local ? sessions[0] : NULL;

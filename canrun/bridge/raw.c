@@ -1,5 +1,5 @@
-/* CAN_RAW: options, filters, and frames in both directions. The server also has the options and filters the frames. If
- * there are too many filters for one message to the server, the bridge filters instead. */
+/* CAN_RAW: options, filters, and frames in both directions. The server also stores the options and filters the frames.
+ * If there are too many filters for one message to the server, the bridge filters the frames instead. */
 #define _GNU_SOURCE
 #include "bridge.h"
 
@@ -10,9 +10,11 @@
 #include <stdlib.h>
 #include <string.h>
 
-/* CAN_RAW_XL_FRAMES, which older headers lack. No interface supports CAN XL, but this option also enables FD frames. */
+/* CAN_RAW_XL_FRAMES, which older headers do not define. No interface supports CAN XL, but this option also enables FD
+ * frames. */
 #define RAW_XL_FRAMES 7
-/* The maximum number of characters of the filters in a message to the server. The whole message may have 1024. */
+/* The maximum number of characters for the filters in a message to the server. The whole message may have 1024
+ * characters. */
 #define FILTER_TEXT 1000
 
 static struct options options = {.loopback = 1};
@@ -20,11 +22,12 @@ static struct can_filter all_pass[1];
 static struct can_filter *filters = all_pass;
 static size_t filter_count = 1;
 static unsigned filter_lists;
-static bool filters_here; /* the filters are too many for the server */
+static bool filters_here; /* there are too many filters for the server */
 
 /* ---- options ---- */
 
-/* Returns whether a filter asks for error message frames. As in the kernel, CAN_ERR_FLAG is then set in its mask. */
+/* Returns whether a filter requests error message frames. As in the kernel, such a filter has CAN_ERR_FLAG in its mask.
+ */
 static bool is_of_errors(const struct can_filter *filter) {
     return filter->can_mask & CAN_ERR_FLAG;
 }
@@ -48,7 +51,7 @@ static uint32_t error_classes(void) {
     return classes;
 }
 
-/* Writes the frame filters as text. Returns the number of filters, or -1 if they do not fit. */
+/* Writes the frame filters as a string. Returns the number of filters, or -1 if they do not fit. */
 static int filter_words(char words[FILTER_TEXT + 20]) {
     size_t length = 0;
     int count = 0;
@@ -67,15 +70,15 @@ static int filter_words(char words[FILTER_TEXT + 20]) {
     return count;
 }
 
-/* Writes the filter command. If there are too many filters, the command passes all frames; with `is_none` it passes
- * none. */
+/* Writes the filter command. If there are too many filters, the command passes all frames; if `is_none` is true, it
+ * passes none. */
 static size_t filter_command(char *text, size_t size, bool is_none) {
     char words[FILTER_TEXT + 20] = " 0 0";
     int count = is_none ? 0 : filters_here ? 1 : filter_words(words);
     return (size_t)snprintf(text, size, "< filter %d%s >", count, is_none ? "" : words);
 }
 
-/* Whether the program's queue is full. If so, the server is told to queue nothing for the program. */
+/* Whether the program's queue is full. If it is full, the server is told to queue nothing for the program. */
 static bool is_full;
 
 void raw_setup(struct session *session, char *text, size_t size) {
@@ -113,7 +116,7 @@ void raw_setup(struct session *session, char *text, size_t size) {
     *given = wanted;
 }
 
-/* Returns the address of an option that has a single number, or NULL for other options. */
+/* Returns a pointer to the variable of an option whose value is a single number, or NULL for other options. */
 static void *place_of(int option) {
     switch (option) {
     case CAN_RAW_LOOPBACK: return &options.loopback;
@@ -207,8 +210,8 @@ int raw_send(struct session *to, const struct canfd_frame *frame, bool is_fd, co
     if (frame->len > (is_fd ? CANFD_MAX_DLEN : CAN_MAX_DLEN)) {
         return refused(EINVAL, "the frame is too long");
     }
-    /* The server generates error message frames itself and accepts none. As with vcan, writing one succeeds, but it is
-     * not sent. */
+    /* The server generates error message frames itself and accepts none. As with vcan, writing an error message frame
+     * succeeds, but the frame is not sent. */
     if (frame->can_id & CAN_ERR_FLAG) {
         return 0;
     }
@@ -221,8 +224,8 @@ bool raw_is_error(const void *data) {
     return identifier & CAN_ERR_FLAG;
 }
 
-/* In virtual time: tells the server to queue nothing for a program that would lose it, so that no thread takes a turn
- * for lost frames. */
+/* In virtual time: tells the server to queue nothing for a program that would lose it, so that no thread uses a
+ * scheduling turn for lost frames. */
 static int64_t raw_due(void) {
     if (is_virtual() && outbox_is_full() != is_full) {
         is_full = !is_full;
@@ -248,7 +251,7 @@ int raw_write(int index, const void *data, size_t length, const struct later *la
 static int raw_sendmsg(const struct wire_request *request, const char *data, size_t length, int reply_to,
                        struct wire_reply *reply) {
     struct later later = request_later(request, reply_to, (int)length);
-    /* A reply with one byte of data makes the library print a note that this frame is not sent. */
+    /* If the reply contains one byte of data, the library prints a note that this frame is not sent. */
     reply->length = length >= CAN_MTU && raw_is_error(data);
     return raw_write(request->ifindex, data, length, request_waits(request, reply_to) ? &later : NULL);
 }
@@ -262,7 +265,7 @@ static int raw_bind(const struct sockaddr_can *address) {
     return sessions_bind(address->can_ifindex);
 }
 
-/* Returns whether an identifier passes the filters, by the rule of linux/can.h. This is used for filters that do not
+/* Returns whether an identifier passes the filters, by the rule in linux/can.h. This is used for filters that do not
  * fit into a message to the server. */
 static bool passes(canid_t identifier) {
     bool any = false, all = true;

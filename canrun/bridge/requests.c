@@ -1,4 +1,4 @@
-/* Handles the requests of the program, one at a time. Each request comes with a pipe for its reply. */
+/* Handles the requests from the program, one at a time. Each request comes with a pipe for its reply. */
 #define _GNU_SOURCE
 #include "bridge.h"
 
@@ -13,7 +13,7 @@
 #include <sys/stat.h>
 #include <unistd.h>
 
-/* How many nanoseconds a write waits for room in a thread in which no signal can end the wait. */
+/* How many nanoseconds a write waits for room if no signal can end the wait in its thread. */
 #define SHORT_WAIT SECOND
 
 struct reply {
@@ -32,15 +32,15 @@ void request_release(void) {
         if (recv(PROGRAM, &(char){0}, 1, MSG_DONTWAIT) >= 0) {
             kept_count--;
         } else if (errno != ECONNRESET) {
-            /* If the program has left data unread, recv returns ECONNRESET once in place of a request. */
+            /* If the program has left data unread, recv returns ECONNRESET once instead of a request. */
             kept_count = 0;
         }
     }
     kept_length = kept_count ? kept_length : 0;
 }
 
-/* Prints a single line, and only the first time, on standard error of the process that created the socket. The number
- * of the process is part of the socket's name. */
+/* Prints one line, and only the first time it is called, on standard error of the process that created the socket. The
+ * ID of that process is part of the socket's name. */
 static void say(const char *what, int error) {
     static bool is_said;
     char path[64], line[400];
@@ -121,7 +121,7 @@ static int cancel(int asks) {
     return SENT_LATER;
 }
 
-/* After the socket is closed: the end of the socket pair through which a close is waiting. */
+/* After the socket is closed: the end of the socket pair on which a close is waiting. */
 static int close_waiter = -1;
 
 int close_waiter_fd(void) {
@@ -129,7 +129,7 @@ int close_waiter_fd(void) {
 }
 
 /* Handles the close of a copy of the socket. If it was the last copy and a message is being sent, the close waits until
- * this bridge ends. */
+ * this bridge exits. */
 static int begin_close(int pair) {
     struct pollfd polled = {pair, POLLIN, 0};
     if (protocol_is_busy() && poll(&polled, 1, PATIENCE * 1000) > 0 && program_is_gone() && close_waiter < 0) {
@@ -177,7 +177,7 @@ static int set_socket_option(const struct wire_request *request) {
     return 0;
 }
 
-/* Handles a request with these data and this reply pipe. Returns 0, an errno, or SENT_LATER. */
+/* Handles a request with this data and this reply pipe. Returns 0, an errno, or SENT_LATER. */
 static int carry_out(const struct wire_request *request, const char *data, size_t length, int to, struct reply *reply) {
     switch (request->kind) {
     case WIRE_SEND: return protocol->sendmsg(request, data, length, to, &reply->head);
@@ -229,8 +229,8 @@ bool request_is_kept(void) {
     return recv(PROGRAM, &(char){0}, 1, MSG_DONTWAIT | MSG_PEEK | MSG_TRUNC) > 0;
 }
 
-/* Handles a quick write, or a write that bypassed the library. The latter waits for room, because there is no reply
- * that could report a lack of room. */
+/* Handles a quick write, or a write that bypassed the library. A write that bypassed the library waits for room,
+ * because there is no reply that could report a lack of room. */
 static void serve_bare(const char *data, size_t length) {
     struct wire_request request = {.kind = WIRE_SEND, .ifindex = WIRE_BOUND, .length = (uint32_t)length};
     struct reply reply = {.head = {0}};

@@ -1,20 +1,20 @@
-/* Frames that wait for room in a transmit queue. They are sent in their order at each interface, and other work does
- * not wait for them. */
+/* Frames that wait for room in a transmit queue. On each interface they are sent in order, and other work does not wait
+ * for them. */
 #include "bridge.h"
 
 #include <errno.h>
 #include <poll.h>
 #include <string.h>
 
-/* The maximum number of waiting frames. When this many are waiting, the bridge takes no more requests. */
+/* The maximum number of waiting frames. When this many are waiting, the bridge reads no more requests. */
 #define WAITERS 64
 /* The shortest and the longest pause between two checks of an interface's counts, in nanoseconds. */
 #define SHORT_PAUSE 100000
 #define LONG_PAUSE 2000000
-/* A waiting frame is sent only if there is room, because each refused frame adds an entry to the server's record. If
- * other senders have taken the free room at this many checks in a row, the frame is sent nevertheless. */
+/* A waiting frame is sent only if there is room, because every refused frame adds an entry to the server's record. If
+ * other senders have taken the free room at this many checks in a row, the frame is sent anyway. */
 #define MOST_MISSED 16
-/* Half of the queue length that is assumed for a queue that has never been full. */
+/* Half of the assumed length of a queue that has never been full. */
 #define FEW_PLACES 4
 
 static struct waiter {
@@ -25,7 +25,7 @@ static struct waiter {
 } waiters[WAITERS];
 static unsigned count;
 
-/* Returns the index of the first waiting frame of this interface, or `count` if there is none. */
+/* Returns the index in `waiters` of the first waiting frame of this interface, or `count` if there is none. */
 static unsigned first_at(int index) {
     unsigned at = 0;
     while (at < count && waiters[at].index != index) {
@@ -50,8 +50,8 @@ static void begin_looking(struct session *session) {
     session->look_at = clock_now();
 }
 
-/* Returns whether one more frame may make the queue half full, as far as its size is known. If so, the counts are asked
- * for. */
+/* Returns whether one more frame may make the queue half full, as far as the queue's size is known. If so, the counts
+ * are requested. */
 static bool is_half_full(const struct session *session) {
     uint64_t half = session->was_full ? (session->places + 1) / 2 : FEW_PLACES;
     return session->waiting + session->since + 1 >= half;
@@ -100,7 +100,8 @@ void room_look(int index) {
     }
 }
 
-/* Returns whether to send the first waiting frame: there is room, or other senders have always taken it first. */
+/* Returns whether to send the first waiting frame, because there is room or because other senders have taken the room
+ * too often. */
 static bool is_time(struct session *session, uint64_t gone_before) {
     session->missed += session->gone != gone_before;
     bool is_time = session_has_room(session) || session->missed >= MOST_MISSED;
@@ -144,7 +145,7 @@ static void look(struct session *session) {
     }
 }
 
-/* Ends the waits whose time is over. Returns the nanoseconds until the next one ends, or -1. */
+/* Ends the waits whose time has run out. Returns the nanoseconds until the next wait ends, or -1. */
 static int64_t end_vain(void) {
     uint64_t now = count ? clock_now() : 0, until = UINT64_MAX;
     for (unsigned at = 0; at < count;) {

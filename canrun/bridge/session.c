@@ -12,7 +12,7 @@
 #include <sys/time.h>
 #include <unistd.h>
 
-/* The maximum length of the commands in one write: filters and the echo. */
+/* The maximum length of the commands in one write, which are the filters and the echo. */
 #define LONGEST 2048
 /* Returns the errno for a refusal by the server, as SocketCAN would return it. */
 static int error_of(const char *reply) {
@@ -52,8 +52,8 @@ void session_end(struct session *session) {
 
 /* ---- which received frames came from this session ---- */
 
-/* Records that the frame with this number belongs to this session. The numbers between the previous such frame and this
- * one belong to frames of other sessions. */
+/* Records that the frame with this number belongs to this session. The numbers between the previous frame of this
+ * session and this one belong to frames of other sessions. */
 static void keep_number(struct session *session, uint64_t number) {
     if (!session->sent_end) {
         session->sent_end = number;
@@ -76,7 +76,7 @@ uint64_t session_last_number(const struct session *session) {
     return session->sent_end - 1;
 }
 
-/* Reads a message that accepts a frame, and records the frame's number. Returns false if it is another message. */
+/* Reads a message that accepts a frame, and records the frame's number. Returns false for other messages. */
 static bool note_sent(struct session *session, const char *text) {
     static const char word[] = "ack ";
     uint64_t number;
@@ -90,8 +90,8 @@ static bool note_sent(struct session *session, const char *text) {
     return true;
 }
 
-/* Returns the flags of a received frame for recvmsg: MSG_DONTROUTE if it was sent by the same interface, and
- * MSG_CONFIRM if it was sent by this socket. The server always accepts a frame before it sends the frame back. */
+/* Returns the flags of a received frame for recvmsg: MSG_DONTROUTE if the frame was sent by the same interface, and
+ * MSG_CONFIRM if it was sent by this socket. The server always accepts a frame before sending the frame back. */
 static uint32_t message_flags(const struct session *session, const struct item *item) {
     if (item->origin != ORIGIN_SAME) {
         return 0;
@@ -101,7 +101,7 @@ static uint32_t message_flags(const struct session *session, const struct item *
 
 /* ---- messages from the server ---- */
 
-/* Reads a message with the counts. Returns false if it is another message. */
+/* Reads a message that contains the counts. Returns false for other messages. */
 static bool note_counts(struct session *session, const char *text, unsigned long *queued, unsigned *dropped) {
     unsigned long done, waiting, lost;
     if (strncmp(text, "stats ", 6) ||
@@ -170,12 +170,12 @@ static void handle_input(struct session *session) {
     session->have = (size_t)(end - at);
     memmove(session->input, at, session->have);
     if (session->have == sizeof session->input) {
-        session->have = 0; /* The text is longer than any message: this is not a canbusd. */
+        session->have = 0; /* The input is longer than any message, so the server is not a canbusd. */
     }
 }
 
-/* Returns how many nanoseconds a read waits. The time is short for a server that has not replied before, so that writes
- * in several threads do not all wait one after another. */
+/* Returns how many nanoseconds a read waits. The time is short for a server that has failed to reply before, so that
+ * writes in several threads do not all wait one after another. */
 static uint64_t patience_with(const struct session *session) {
     return session->is_silent ? SECOND / 10 : PATIENCE * SECOND;
 }
@@ -197,8 +197,9 @@ bool session_read(struct session *session, bool waits) {
 
 /* ---- commands ---- */
 
-/* Writes the whole text, or drops the session. While waiting, it handles input, because a server whose output is not
- * read takes no commands. A server that has closed the connection takes none either, but may have sent the reason. */
+/* Writes the whole string, or drops the session. While waiting, it handles input, because a server whose output is not
+ * read accepts no commands. A server that has closed the connection accepts none either, but may have sent the reason.
+ */
 static void put_text(struct session *session, const char *text, size_t length) {
     uint64_t until = 0;
     size_t written = 0;
@@ -224,8 +225,8 @@ static void set_silent(struct session *session, bool is_silent) {
     setsockopt(session->fd, SOL_SOCKET, SO_RCVTIMEO, &time, sizeof time);
 }
 
-/* Waits until the reply that is due is `most`, or one before it in enum due. Returns false if a reply does not arrive
- * in time. */
+/* Waits until the session expects no reply that is later in enum due than `most`. Returns false if a reply does not
+ * arrive in time. */
 static bool settle(struct session *session, enum due most) {
     while (session->due > most && session->fd >= 0) {
         if (!session_read(session, true)) {
@@ -244,12 +245,12 @@ static int verdict(struct session *session) {
     if (!settle(session, DUE_COUNTS)) {
         return refused(ETIMEDOUT, "the server does not reply");
     }
-    /* The last message of the server may contain the reason, for example too many sessions. So it is checked first. */
+    /* The server's last message may contain the reason, for example too many sessions. So it is checked first. */
     int error = error_of(session->reply);
     return error ? error : session->due > DUE_COUNTS ? refused(ENXIO, "the server is gone") : 0;
 }
 
-/* Sends commands and waits for the reply `due` that ends them. Before that, it waits for the reply to an earlier
+/* Sends commands and waits for the reply `due`, which comes after them. First it waits for the reply to an earlier
  * command whose wait was given up. */
 static int give(struct session *session, const char *text, size_t length, enum due due) {
     if (!settle(session, DUE_NOTHING)) {

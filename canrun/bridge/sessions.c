@@ -13,7 +13,7 @@ int session_count;
 bool is_bound;
 int bound_index;
 
-/* If the server has no room for another session, stores an explanation that names the interface. Returns the error. */
+/* If the server has no room for another session, stores an explanation that names the interface. Returns `error`. */
 static int explain(int error, const char *name) {
     static char why[240];
     const char *address = getenv("CANBUSD_ADDRESS");
@@ -54,7 +54,7 @@ static int start_raw(int index, bool is_receiving, struct session **started) {
     return 0;
 }
 
-/* Starts a session for each interface of the server. */
+/* Starts a session for every interface of the server. */
 static int start_all(struct session *started[INTERFACE_MOST], int *count) {
     char name[IFNAMSIZ];
     int error = 0;

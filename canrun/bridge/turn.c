@@ -1,4 +1,4 @@
-/* The bridge's functions for virtual time. */
+/* The functions of the bridge for virtual time. */
 #include "../virtual/turns.h"
 
 bool is_virtual(void);

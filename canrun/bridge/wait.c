@@ -19,17 +19,18 @@ static int wait_for(struct pollfd *polled, nfds_t count, int64_t nanoseconds) {
 bool wait_for_input(int64_t nanoseconds, bool takes_requests) {
     static struct pollfd polled[3 + INTERFACE_MOST];
     short events = (short)((takes_requests ? POLLIN : 0) | (outbox_is_empty() ? 0 : POLLOUT));
-    /* While requests stay in the socket, poll always reports the socket as readable. So the bridge polls an epoll
-     * descriptor for new requests instead. */
+    /* While requests stay in the socket, poll always reports the socket as readable. So the bridge instead polls an
+     * epoll descriptor for new requests. */
     int news = takes_requests && protocol->is_full ? request_news() : -1;
     bool is_kept = news >= 0 && request_is_kept();
     /* If the other end is closed, poll always reports the socket as ready, even though there are no requests. So the
-     * bridge polls the waiting close instead. */
+     * bridge instead polls the close that is waiting. */
     bool is_closing = !takes_requests && program_is_gone();
     polled[0] = (struct pollfd){is_closing ? close_waiter_fd() : PROGRAM, is_closing ? POLLIN : events, 0};
     polled[0].events &= (short)(news >= 0 ? ~POLLIN : ~0);
     polled[1] = (struct pollfd){news, POLLIN, 0};
-    /* A program that has borrowed the session reads its replies. The bridge only watches whether the session ends. */
+    /* While a program has borrowed the session, that program reads the session's replies, and the bridge only watches
+     * for the end of the session. */
     short news_of_session = quick_lend() ? POLLRDHUP : POLLIN;
     for (int i = 0; i < session_count; i++) {
         polled[2 + i] = (struct pollfd){outbox_is_crowded() ? -1 : sessions[i]->fd, news_of_session, 0};

@@ -1,4 +1,4 @@
-/* canbusd-run: runs a program whose CAN sockets are sockets of a canbusd server. */
+/* canbusd-run: runs a program whose CAN sockets belong to a canbusd server. */
 #define _GNU_SOURCE
 #include "program.h"
 #include "server.h"
@@ -20,7 +20,7 @@
 #define LIBRARY "libcanbusd-run.so"
 #define VIRTUAL_LIBRARY "libcanbusd-virtual.so"
 /* The exit statuses, as in env, timeout and similar commands: canbusd-run itself failed, the program cannot be run, and
- * there is no such program. */
+ * the program does not exist. */
 enum { STATUS_FAULT = 125, STATUS_NOT_RUN = 126, STATUS_NOT_FOUND = 127 };
 
 /* clang-format off */
@@ -75,7 +75,8 @@ static int fault(const char *text, const char *word) {
     return STATUS_FAULT;
 }
 
-/* Returns the value of an option, `--name VALUE` or `--name=VALUE`. Returns NULL if the word is another option. */
+/* Returns the value of an option, given as `--name VALUE` or `--name=VALUE`. Returns NULL if the word is another
+ * option. */
 static const char *value_of(const char *name, char ***at) {
     size_t length = strlen(name);
     if (strncmp(**at, name, length) != 0) {
@@ -87,8 +88,8 @@ static const char *value_of(const char *name, char ***at) {
     return (**at)[length] ? NULL : (*at)[1] ? *++*at : "";
 }
 
-/* Parses an option that belongs to --virtual. Returns false if the word is another option. Sets `status` if the value
- * is invalid. */
+/* Parses an option that belongs to --virtual. Returns false if the word is another option. If the value is invalid,
+ * sets `status`. */
 static int take_virtual(char ***at, struct words *words, int *status) {
     static const char *const names[] = {"date", "until", "stall", "seed", "jitter"};
     for (size_t i = 0; i < sizeof names / sizeof *names; i++) {
@@ -109,7 +110,7 @@ static int take_virtual(char ***at, struct words *words, int *status) {
 }
 
 /* Refuses combinations of options that exclude each other. With --virtual no server is running yet, because PROGRAM
- * starts it. */
+ * starts the server. */
 static int check_words(const struct words *words) {
     if (words->virtual_word && !words->is_virtual) {
         return fault("only --virtual has this option", words->virtual_word);
@@ -127,7 +128,7 @@ static int check_words(const struct words *words) {
     return *words->program || words->child ? 0 : fault("which program? --help shows how it is used", NULL);
 }
 
-/* Parses the command line. Returns 0. On an error it prints a line on standard error and returns an exit status. */
+/* Parses the command line. Returns 0. On an error it prints a line to standard error and returns an exit status. */
 static int read_words(char **at, struct words *words) {
     int status = 0;
     for (; *at && !strncmp(*at, "--", 2); at++) {
@@ -194,7 +195,7 @@ static int show_interfaces(const char *list, const char *all) {
     }
 }
 
-/* Puts an entry at the beginning of an environment variable, unless the variable already contains it. */
+/* Adds an entry at the beginning of an environment variable, unless the variable already contains that entry. */
 static void put_first(const char *variable, const char *text, const char *separator) {
     const char *before = getenv(variable);
     char *whole;
@@ -224,8 +225,8 @@ static int preload(const char *name) {
         return fault(library, strerror(errno));
     }
     put_first("LD_PRELOAD", library, ":");
-    /* The address sanitizer of gcc insists on being the first library, although it need not be. This option turns that
-     * check off. */
+    /* gcc's address sanitizer insists on being the first library, although it need not be. This option turns that check
+     * off. */
     put_first("ASAN_OPTIONS", "verify_asan_link_order=0", ":");
     return 0;
 }
@@ -251,7 +252,8 @@ static int become(char **program, int is_supervised) {
     return error == ENOENT ? STATUS_NOT_FOUND : STATUS_NOT_RUN;
 }
 
-/* Runs this command again with the library loaded, as --supervised: it will be the supervisor of the program. */
+/* Runs this command again with the library loaded and the option --supervised. The new process will be the program's
+ * supervisor. */
 static int begin_supervised(char **program) {
     size_t count = 0;
     while (program[count]) {
@@ -304,7 +306,7 @@ int main(int count, char **all) {
         return run_virtual(&words);
     }
     if (words.is_ready) {
-        personality(ADDR_NO_RANDOMIZE); /* so that its children have the same addresses in each run */
+        personality(ADDR_NO_RANDOMIZE); /* so that its children have the same addresses in every run */
         status = preload(VIRTUAL_LIBRARY);
         return status ? status : become(words.program, 0);
     }

@@ -14,10 +14,10 @@
 #include <sys/uio.h>
 #include <time.h>
 
-/* ERESTARTSYS of the kernel: the interrupted call is restarted or returns EINTR, depending on the flags of the signal
+/* The kernel's ERESTARTSYS: the interrupted call is restarted or returns EINTR, depending on the flags of the signal
  * handler. */
 #define RESTART 512
-/* A waiting call checks for signals every LOOK milliseconds, because nothing else reports them. */
+/* A waiting call checks for signals every LOOK milliseconds, because it is not notified of them in any other way. */
 #define LOOK 20
 /* The maximum size of a message, the maximum size of its control data, and the maximum number of its pieces. */
 #define LONGEST WIRE_LARGEST
@@ -42,7 +42,8 @@ static size_t length_of(const struct parcel *parcel) {
     return length;
 }
 
-/* Reads the header of a message: its struct msghdr, or the piece and the address in the arguments of the call. */
+/* Reads the header of a message: its struct msghdr, or else the piece and the address from the arguments of the call.
+ */
 static int read_head(const struct call *call, struct parcel *parcel) {
     int number = call->asked->data.nr;
     const __u64 *words = call->words;
@@ -95,7 +96,7 @@ static bool may_wait(const struct call *call, int flags) {
     return !(flags & (MSG_DONTWAIT | MSG_ERRQUEUE)) && !(fcntl(call->fd, F_GETFL) & O_NONBLOCK);
 }
 
-/* Sends a message. An ISO-TP message may have to wait until the message before it has been sent; a signal ends that
+/* Sends a message. An ISO-TP message may have to wait until the previous message has been sent; a signal ends that
  * wait. */
 static int64_t put_message(const struct call *call, const struct msghdr *message, int flags) {
     const struct timeval no_limit = {0, 0};
@@ -144,8 +145,8 @@ static int64_t send_message(const struct call *call, struct parcel *parcel, int 
     return put_message(call, &parcel->ours, flags);
 }
 
-/* Copies the sender's address to the program, as much as fits into its buffer. As in the kernel, an error is found only
- * after the message has been received. */
+/* Copies as much of the sender's address to the program as fits into its buffer. As in the kernel, an error is found
+ * only after the message has been received. */
 static int64_t give_name(const struct call *call, const struct parcel *parcel, int64_t value) {
     socklen_t room;
     if (!parcel->theirs.msg_name) {
@@ -163,7 +164,7 @@ static int64_t give_name(const struct call *call, const struct parcel *parcel, i
                : -EFAULT;
 }
 
-/* Copies everything about a message except its bytes to the program. */
+/* Copies everything about a message to the program except the message's bytes. */
 static int64_t give_head(const struct call *call, struct parcel *parcel, int64_t value) {
     struct msghdr *theirs = &parcel->theirs;
     const struct msghdr *ours = &parcel->ours;

@@ -1,4 +1,4 @@
-/* Checks the file of a program: how it will be loaded, and whether it can use the library. See program.h. */
+/* Checks the file of a program: how the program will be loaded, and whether it can use the library. See program.h. */
 #define _GNU_SOURCE
 #include "program.h"
 
@@ -42,7 +42,7 @@ static bool read_at(int fd, void *data, size_t length, size_t offset) {
     return pread(fd, data, length, (off_t)offset) == (ssize_t)length;
 }
 
-/* Returns whether a segment contains the note of the Go linker. In a Go program with C code this note comes after other
+/* Returns whether a segment contains the Go linker's note. In a Go program with C code this note comes after other
  * notes. */
 static bool has_note_of_go(int fd, const Elf64_Phdr *segment) {
     struct {
@@ -73,8 +73,8 @@ static bool is_loader_of_musl(int fd, const Elf64_Phdr *segment) {
 
 static const char OF_MUSL[] = "is linked with musl, and not with glibc";
 
-/* Returns why the program in this file does not load the library, or NULL. For a 32-bit program --static does not help
- * either. */
+/* Returns why the program in this file does not load the library, or NULL if it does. For a 32-bit program --static
+ * does not help either. */
 static const char *elf_obstacle(int fd, bool *is_32_bit) {
     Elf64_Ehdr head;
     Elf64_Phdr segment;
@@ -98,7 +98,8 @@ static const char *elf_obstacle(int fd, bool *is_32_bit) {
                          : NULL;
 }
 
-/* Returns whether the file gives the program other privileges. In that case the loader ignores LD_PRELOAD. */
+/* Returns whether the program runs with other privileges because of its file. In that case the loader ignores
+ * LD_PRELOAD. */
 static bool is_privileged(const char *path) {
     struct stat status;
     if (stat(path, &status)) {
@@ -109,8 +110,8 @@ static bool is_privileged(const char *path) {
            (geteuid() != 0 && getxattr(path, "security.capability", NULL, 0) > 0);
 }
 
-/* Returns whether a statically linked program causes no problem: ldconfig creates no CAN sockets, while valgrind and
- * the loader run another program that does load the library. */
+/* Returns whether a statically linked program causes no problem: ldconfig creates no CAN sockets; valgrind and the
+ * loader run another program, which does load the library. */
 static bool is_harmless(const char *path) {
     static const char *const names[] = {"ldconfig", "sln", "ld-linux", "ld.so", "ld64.so"};
     const char *slash = strrchr(path, '/'), *name = slash ? slash + 1 : path;
@@ -122,7 +123,7 @@ static bool is_harmless(const char *path) {
     return strstr(path, "/valgrind/");
 }
 
-/* Returns why the program at this path does not load the library, or NULL. */
+/* Returns why the program at this path does not load the library, or NULL if it does. */
 static const char *file_obstacle(const char *path, bool *is_32_bit) {
     int fd = open(path, O_RDONLY | O_CLOEXEC);
     const char *obstacle = fd >= 0 ? elf_obstacle(fd, is_32_bit) : NULL;

@@ -63,7 +63,7 @@ bool has_signal(const struct call *call) {
 
 /* ---- programs ---- */
 
-/* A cache of program files that were checked: whether each one loads the library. */
+/* A cache of checked program files. It stores whether each program loads the library. */
 static struct {
     dev_t device;
     ino_t file;

@@ -15,15 +15,17 @@
 #include <time.h>
 #include <unistd.h>
 
-/* How many milliseconds to wait for each reply of the server, and between two attempts to connect to it. */
+/* How many milliseconds to wait for each reply from the server, and between two attempts to connect to it. */
 #define REPLY_TIME 5000
 #define PAUSE 100
 
-/* Error texts about a server that runs, but is too old to list its interfaces or has no room for another session. */
+/* Error messages about a server that is running, but is too old to list its interfaces or has no room for another
+ * session. */
 static const char TOO_OLD[] = "is older than canbusd-run " VERSION ": start one of the same version";
 static const char FULL[] = "has as many sessions as it can, 64: close some";
 
-/* Replaces a host name by its number, and a relative path by an absolute one. Returns an error text, or NULL. */
+/* Replaces a host name with its numeric address, and a relative path with an absolute path. Returns an error message,
+ * or NULL. */
 static const char *resolve(struct address *address) {
     struct addrinfo hints = {.ai_socktype = SOCK_STREAM, .ai_flags = AI_ADDRCONFIG}, *found;
     if (address->is_path) {
@@ -57,7 +59,7 @@ static void write_address(const struct address *address, struct server *server) 
     }
 }
 
-/* Reads the next message of the server. If the message does not end with >, it is incomplete. */
+/* Reads the server's next message. A message that does not end with > is incomplete. */
 static void read_message(int fd, char *message, size_t size) {
     size_t have = 0;
     struct pollfd polled = {fd, POLLIN, 0};
@@ -72,7 +74,7 @@ static void read_message(int fd, char *message, size_t size) {
     }
 }
 
-/* Returns NULL if this is the greeting of a canbusd with room for a session; otherwise a text that describes the
+/* Returns NULL if this is the greeting of a canbusd with room for a session; otherwise a string that describes the
  * greeting. */
 static const char *other_greeting(char *greeting) {
     static char said[160];
@@ -91,8 +93,8 @@ static const char *other_greeting(char *greeting) {
     return said;
 }
 
-/* Asks the server for the names of all its interfaces. Returns false if the server does not know the question, or a
- * name contains a character that is not printable. */
+/* Requests the names of all interfaces from the server. Returns false if the server does not support this request, or
+ * if a name contains a character that is not printable. */
 static bool ask_interfaces(int fd, struct server *server) {
     static const char question[] = "< interfaces >", before[] = "< interfaces ", after[] = " >";
     char message[sizeof before + INTERFACE_NAMES + sizeof after];
@@ -115,8 +117,8 @@ static bool ask_interfaces(int fd, struct server *server) {
     return true;
 }
 
-/* Returns NULL if a canbusd with room for a session listens at this address; otherwise an error text. `is_absent` is
- * set if nothing listens there yet, so a server may still start. */
+/* Returns NULL if a canbusd with room for a session is listening at this address; otherwise an error message.
+ * `is_absent` is set if nothing is listening there yet, so a server may still start. */
 static const char *look(const struct address *address, bool *is_absent, struct server *server) {
     char greeting[64];
     int fd = address_connect(address);

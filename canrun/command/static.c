@@ -1,4 +1,4 @@
-/* Starts a program with a supervisor that makes its system calls: see static.h. */
+/* Starts a program with a supervisor that makes the program's system calls: see static.h. */
 #define _GNU_SOURCE
 #include "static.h"
 
@@ -23,7 +23,7 @@
 #include <unistd.h>
 
 #define STATUS_FAULT 125
-/* The stack size of a supervisor thread, which makes one call of the program. */
+/* The stack size of a supervisor thread, which makes one call for the program. */
 #define STACK 262144
 
 #ifdef __x86_64__
@@ -33,8 +33,8 @@
 #else
 #define ARCHITECTURE 0
 #endif
-/* Some headers are too old for this flag. With it, only a fatal signal ends a call that the supervisor has received. So
- * no frame is written twice, and none is lost because its call was interrupted. */
+/* Some headers are too old to define this flag. With the flag, only a fatal signal ends a call that the supervisor has
+ * received. So no frame is written twice, and none is lost because its call was interrupted. */
 #ifndef SECCOMP_FILTER_FLAG_WAIT_KILLABLE_RECV
 #define SECCOMP_FILTER_FLAG_WAIT_KILLABLE_RECV (1UL << 5)
 #endif
@@ -54,19 +54,19 @@ static int fault(const char *why) {
 #define NOTIFY BPF_STMT(BPF_RET | BPF_K, SECCOMP_RET_USER_NOTIF)
 
 /* The calls that go to the supervisor if their file descriptor is STATIC_FIRST or higher. If a read has to wait, the
- * kernel makes the read, which then gets the frame unchanged. */
+ * kernel makes the read, and the program gets the frame unchanged. */
 static const unsigned CALLS[] = {
     SYS_bind,   SYS_connect, SYS_setsockopt, SYS_getsockopt, SYS_getsockname, SYS_getpeername, SYS_listen,
     SYS_accept, SYS_accept4, SYS_shutdown,   SYS_recvfrom,   SYS_recvmsg,     SYS_sendto,      SYS_sendmsg,
     SYS_write,  SYS_writev,  SYS_read,       SYS_readv,      SYS_dup,         SYS_close,       SYS_fcntl};
-/* The ioctl requests about interfaces, which go to the supervisor on any file descriptor. Requests about a socket
- * itself go there because of the socket's descriptor. */
+/* The ioctl requests about interfaces, which go to the supervisor with any file descriptor. Requests about a socket
+ * itself go to the supervisor because of the socket's descriptor. */
 static const unsigned REQUESTS[] = {SIOCGIFINDEX,  SIOCGIFNAME,   SIOCGIFMTU, SIOCGIFFLAGS, SIOCGIFHWADDR,
                                     SIOCGIFTXQLEN, SIOCGIFMETRIC, SIOCGIFMAP, SIOCSIFFLAGS};
 #define COUNT(list) (sizeof(list) / sizeof *(list))
 
-/* Adds a comparison with each value of a list. If one value is equal, the instructions after the list run; otherwise
- * the first `skipped` of them are skipped. */
+/* Adds a comparison with each value of a list. If a value is equal, the instructions after the comparisons run;
+ * otherwise the first `skipped` of these instructions are skipped. */
 static size_t compare(struct sock_filter *code, const unsigned *list, size_t count, unsigned skipped) {
     for (size_t i = 0; i < count; i++) {
         bool is_last = i + 1 == count;
@@ -76,7 +76,7 @@ static size_t compare(struct sock_filter *code, const unsigned *list, size_t cou
     return count;
 }
 
-/* Installs the filter. Returns the file descriptor of the notifications, or -1 with errno set. */
+/* Installs the filter. Returns the file descriptor for the notifications, or -1 with errno set. */
 static int install(void) {
     const struct sock_filter head[] = {LOAD(arch), IS(ARCHITECTURE, 1, 0), ALLOW, LOAD(nr), IS(SYS_socket, 0, 8),
                                        /* The supervisor is notified of a new socket of AF_CAN, or of AF_NETLINK with
@@ -115,7 +115,8 @@ static void *do_job(void *given) {
     return NULL;
 }
 
-/* After the program's first process has ended, sends no more notes of the library to its standard error. */
+/* Called when the program's first process has ended: the library's notes are no longer written to the program's
+ * standard error. */
 static void leave_output(struct pollfd *program) {
     int null = open("/dev/null", O_RDWR | O_CLOEXEC);
     dup2(null, STDERR_FILENO);
@@ -165,11 +166,11 @@ static void leave_program(unsigned kept) {
     signal(SIGPIPE, SIG_IGN);
     prctl(PR_SET_NAME, "canbusd-static");
     if (chdir("/")) {
-        /* The program's directory then stays in use. */
+        /* If this fails, the program's directory stays in use. */
     }
 }
 
-/* ---- handing over ---- */
+/* ---- passing descriptors between processes ---- */
 
 static bool put(int by, int fd) {
     union {
@@ -199,7 +200,7 @@ static int take(int by) {
     return fd;
 }
 
-/* Forks a supervisor that is not a child of this process, and receives its process number through the pair. */
+/* Forks a supervisor that is not a child of this process, and receives the supervisor's process ID through the pair. */
 static pid_t start_supervisor(const int pair[2]) {
     pid_t number = -1, program = getpid(), child = fork();
     if (child == 0) {
@@ -238,7 +239,8 @@ int static_run(const char *path, char **program) {
     if (supervisor < 0) {
         return fault("no process for the supervisor");
     }
-    /* Some kernels (Yama) allow only ancestors to read the memory of a process. This allows it to the supervisor. */
+    /* Some kernels (Yama) allow only ancestors to read the memory of a process. This call gives the supervisor
+     * permission. */
     prctl(PR_SET_PTRACER, supervisor, 0, 0, 0);
     int listener = ARCHITECTURE ? install() : (errno = ENOSYS, -1);
     if (listener < 0) {

@@ -1,5 +1,5 @@
-/* Makes a system call for a program that does not load the library: see static.h. It calls the functions of the
- * library, which is loaded into this process. */
+/* Makes a system call for a program that does not load the library: see static.h. It calls the library's functions; the
+ * library is loaded into this process. */
 #define _GNU_SOURCE
 #include "supervise.h"
 
@@ -36,8 +36,8 @@ static void drop(int fd) {
 
 static pthread_mutex_t places = PTHREAD_MUTEX_INITIALIZER;
 
-/* Puts a socket at a free file descriptor of the program, between STATIC_FIRST and STATIC_PAST. The program's call
- * returns this descriptor. Returns 0, or a negative errno. */
+/* Installs a socket at a free file descriptor of the program, from STATIC_FIRST up to but not including STATIC_PAST.
+ * The program's call returns this descriptor. Returns 0, or a negative errno. */
 static int put_socket(const struct call *call, int fd, bool is_cloexec) {
     char path[64], target[8];
     for (uint32_t at = STATIC_FIRST; at < STATIC_PAST; at++) {
@@ -66,8 +66,8 @@ static void hand_over(const struct call *call, int fd, bool is_cloexec) {
     }
 }
 
-/* Prints once that --static does not support CAN_J1939, because its errors and its close need the library in the
- * program. */
+/* Prints once that --static does not support CAN_J1939. The errors and the close of such a socket require the library
+ * in the program. */
 static void note_no_j1939(void) {
     static bool is_said;
     if (!__atomic_exchange_n(&is_said, true, __ATOMIC_RELAXED)) {
@@ -211,8 +211,8 @@ static bool is_of_socket(const struct call *call, bool is_can) {
 
 /* ---- one call ---- */
 
-/* Returns whether the kernel can make the call: it is a CAN_RAW read that has to wait and returns only the bytes of a
- * frame. For other protocols an error may come in place of a message. */
+/* Returns whether the kernel can make the call. This is so for a CAN_RAW read that has to wait and returns only the
+ * bytes of a frame. With other protocols an error may arrive instead of a message. */
 static bool is_plain_wait(const struct call *call) {
     int number = call->asked->data.nr, type = 0;
     struct pollfd polled = {call->fd, POLLIN, 0};
@@ -222,7 +222,7 @@ static bool is_plain_wait(const struct call *call) {
            type == SOCK_RAW && poll(&polled, 1, 0) == 0;
 }
 
-/* A function of the library. It sets the process for which this thread makes calls. */
+/* A library function that sets the process for which this thread makes calls. */
 __attribute__((weak)) void canbusd_run_serves(pid_t process);
 
 static int64_t make_call(const struct call *call) {

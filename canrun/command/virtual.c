@@ -8,24 +8,25 @@
 #include <time.h>
 
 #define BILLION 1000000000ull
-/* The maximum of a date or a length of time in seconds: 2^63 nanoseconds are 292 years. */
+/* The maximum of a date or a duration in seconds: 2^63 nanoseconds are 292 years. */
 #define MOST_SECONDS 9000000000.0
 
-/* Parses a decimal number of seconds. Returns a negative number if the text is invalid. */
+/* Parses a decimal number of seconds. Returns a negative number if the string is invalid. */
 static double seconds_in(const char *value) {
     char *end;
     double seconds = *value >= '0' && *value <= '9' ? strtod(value, &end) : -1;
     return seconds >= 0 && !*end && isfinite(seconds) && seconds <= MOST_SECONDS ? seconds : -1;
 }
 
-/* Parses a count of at most `most`. Returns false if the text is invalid. */
+/* Parses a count of at most `most`. Returns false if the string is invalid. */
 static bool count_in(const char *value, uint64_t most, uint64_t *count) {
     char *end;
     *count = *value >= '0' && *value <= '9' ? strtoull(value, &end, 10) : most + 1;
     return *count <= most && !*end;
 }
 
-/* Parses a date: 2026-01-31 or 2026-01-31T12:00:00 (UTC; a space may replace the T), seconds since 1970, or `now`. */
+/* Parses a date: 2026-01-31, 2026-01-31T12:00:00 (UTC; a space may replace the T), a number of seconds since 1970, or
+ * `now`. */
 static bool read_date(const char *value, uint64_t *epoch) {
     static const char *const forms[] = {"%Y-%m-%d", "%Y-%m-%dT%H:%M:%S", "%Y-%m-%d %H:%M:%S"};
     if (!strcmp(value, "now")) {

@@ -1,4 +1,4 @@
-/* Sends a request to the bridge of a socket and waits for its reply. Each reply comes on a separate pipe and the
+/* Sends a request to the bridge of a socket and waits for the reply. Each reply comes on a separate pipe and the
  * library keeps no state, so any number of threads and processes can send requests at the same time. */
 #define _GNU_SOURCE
 #include "library.h"
@@ -33,7 +33,7 @@ int put_request(int fd, int with, const struct wire_request *request, const stru
     rights->cmsg_type = SCM_RIGHTS;
     rights->cmsg_len = CMSG_LEN(sizeof(int));
     memcpy(CMSG_DATA(rights), &with, sizeof(int));
-    /* The bridge reads requests at once, so the socket has room soon. This call therefore waits even for a program that
+    /* The bridge reads requests at once, so the socket soon has room. This call therefore waits even for a program that
      * does not want to wait. */
     return syscall(SYS_sendmsg, fd, &message, MSG_NOSIGNAL) >= 0 ? 0 : errno;
 }
@@ -43,11 +43,11 @@ struct asked {
     int fd, reply_from;
     const char *what;
     bool may_end;        /* a signal ends the wait */
-    bool is_interrupted; /* a signal came, and its handler has no SA_RESTART */
+    bool is_interrupted; /* a signal arrived whose handler has no SA_RESTART */
 };
 
-/* Asks the bridge to end the wait of a write. If this comes too late, the write has already been done and the reply
- * reports it. */
+/* Asks the bridge to end the wait of a write. If the bridge gets this request too late, the write has already been done
+ * and the reply reports it. */
 static void cancel(struct asked *asked) {
     struct wire_request request = {.kind = WIRE_CANCEL};
     while (put_request(asked->fd, asked->reply_from, &request, NULL, 0) == EINTR) {
@@ -55,8 +55,8 @@ static void cancel(struct asked *asked) {
     asked->may_end = false;
 }
 
-/* Reads `length` bytes, or fewer at the end of the pipe. It continues after a signal, because the reply contains the
- * result of the request. If the signal handler has SA_RESTART, the kernel itself continues the read. */
+/* Reads `length` bytes, or fewer at the end of the pipe. After a signal it continues to read, because the reply
+ * contains the result of the request. If the signal handler has SA_RESTART, the kernel itself continues the read. */
 static size_t read_whole(struct asked *asked, void *data, size_t length) {
     size_t done = 0;
     while (done < length) {

@@ -1,4 +1,5 @@
-/* CAN_BCM, the broadcast manager. Its sockets use connect instead of bind, and have no options and no address. */
+/* CAN_BCM, the broadcast manager. A program calls connect on its sockets instead of bind. The sockets have no options
+ * and no address. */
 #define _GNU_SOURCE
 #include "library.h"
 
@@ -27,7 +28,7 @@ static ssize_t bcm_sendmsg(const struct socket *sock, const struct msghdr *messa
                : answer.value;
 }
 
-/* Clears MSG_TRUNC: as in the kernel, the program is not told that a message was longer than its buffer. */
+/* Clears MSG_TRUNC. As in the kernel, the program is not told that a message was longer than its buffer. */
 static ssize_t bcm_recvmsg(const struct socket *sock, struct msghdr *message, int flags) {
     ssize_t done = can_recvmsg(sock, message, flags);
     message->msg_flags &= ~MSG_TRUNC;

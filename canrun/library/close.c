@@ -1,4 +1,4 @@
-/* close, dup2 and dup3. As in the kernel, closing a socket of some protocols (`lingers`) waits until the socket's
+/* close, dup2 and dup3. As in the kernel, closing a socket of certain protocols (`lingers`) waits until the socket's
  * message has been sent. */
 #define _GNU_SOURCE
 #include "library.h"
@@ -13,7 +13,7 @@ static void put_byte(int fd) {
     syscall(SYS_sendto, fd, "", 1L, MSG_NOSIGNAL, NULL, 0L);
 }
 
-/* Waits until the bridge ends, or closes its end of the pair. A signal ends the wait: the bridge then abandons the
+/* Waits until the bridge exits, or closes its end of the pair. A signal ends the wait: the bridge then abandons the
  * message and sends no more of its frames. */
 static void await_end(int fd) {
     struct pollfd polled = {fd, POLLIN, 0};
@@ -32,7 +32,7 @@ static int close_patiently(int fd) {
     int error = put_request(fd, pair[1], &request, NULL, 0);
     syscall(SYS_close, pair[1]);
     int result = real()->close(fd);
-    /* Tells the bridge to check whether that was the last copy of the socket. */
+    /* Tells the bridge to check whether this was the last copy of the socket. */
     put_byte(pair[0]);
     if (!error) {
         await_end(pair[0]);

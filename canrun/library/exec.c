@@ -1,6 +1,6 @@
-/* Replaces the calls that start programs. If the file of a program shows that the program will not load this library, a
- * line on standard error names the program, because its CAN sockets will be the kernel's. The start itself is left to
- * the C library. */
+/* Replaces the calls that start programs. If a program's file shows that the program will not load this library, a line
+ * on standard error names the program, because its CAN sockets will be the kernel's. The C library still starts the
+ * program. */
 #define _GNU_SOURCE
 #include "library.h"
 
@@ -11,7 +11,8 @@
 #include <stdio.h>
 #include <sys/syscall.h>
 
-/* Prints the note for the program in `file`, if one is needed. If `is_searched`, the file is looked up in PATH. */
+/* Prints the note for the program in `file`, if one is needed. If `is_searched` is true, the file is looked up in PATH.
+ */
 static void note(const char *file, bool is_searched) {
     char path[PATH_MAX], line[PATH_MAX + 192];
     int before = errno;

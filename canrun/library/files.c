@@ -1,6 +1,7 @@
-/* Files below /sys/class/net, where programs such as those that use Qt look for devices. Each interface of the server
- * has a directory there, with files that contain facts about it. An opened file is a memory file that contains only the
- * text. The file status and permissions of a path are those of the same path for the interface lo. */
+/* Files below /sys/class/net, where some programs, such as those that use Qt, look for devices. Each interface of the
+ * server has a directory there, with files that contain the properties of the interface. An opened file is a memory
+ * file with only that content. The file status and permissions of a path are the same as for the corresponding path of
+ * the interface lo. */
 #define _GNU_SOURCE
 #include "library.h"
 
@@ -49,7 +50,8 @@ static bool find_place(const char *path, struct place *place) {
 
 /* ---- texts ---- */
 
-/* Writes the text of a file whose content changes. Returns false if there is no such file, or the fact is unknown. */
+/* Writes the content of a file whose content changes over time. Returns false if there is no such file, or if the
+ * content is unknown. */
 static bool write_fact(const struct place *place, char *text, size_t size) {
     struct link_facts facts = links_facts(place->index);
     const struct {
@@ -70,7 +72,7 @@ static bool write_fact(const struct place *place, char *text, size_t size) {
                                                : false;
 }
 
-/* Writes the text of a file. Returns false if there is no such file. */
+/* Writes the content of a file. Returns false if there is no such file. */
 static bool write_text(const struct place *place, char *text, size_t size) {
     char name[IFNAMSIZ];
     const struct {
@@ -116,7 +118,7 @@ static int open_place(const struct place *place, int flags) {
     return fd;
 }
 
-/* Returns the path whose status the program gets in place of this path's status. */
+/* Returns the path whose status the program gets instead of the status of `path`. */
 static const char *stand_in(const char *path, char room[PATH_MAX]) {
     struct place place;
     char text[128];
@@ -178,7 +180,7 @@ EXPORT FILE *fopen64(const char *restrict path, const char *restrict mode) {
     return find_place(path, &place) ? open_stream(&place, mode) : real()->fopen64(path, mode);
 }
 
-/* ---- facts of paths ---- */
+/* ---- the status of paths ---- */
 
 EXPORT int stat(const char *restrict path, struct stat *restrict facts) {
     char room[PATH_MAX];
@@ -239,7 +241,8 @@ static struct {
 #define LISTS (sizeof lists / sizeof *lists)
 static pthread_mutex_t lists_lock = PTHREAD_MUTEX_INITIALIZER;
 
-/* Returns the index of a stream in `lists`, or LISTS if it is not there. NULL finds a free entry. */
+/* Returns the index of a stream in `lists`, or LISTS if the stream is not there. If `stream` is NULL, returns the index
+ * of a free entry. */
 static size_t list_of(const DIR *stream) {
     size_t at = 0;
     while (at < LISTS && lists[at].stream != stream) {
@@ -284,8 +287,8 @@ EXPORT void rewinddir(DIR *stream) {
     real()->rewinddir(stream);
 }
 
-/* Returns the entry of the next interface of the server, or NULL at the end of the list. The kernel's interfaces come
- * before the server's. Both struct dirent and struct dirent64 have the same layout. */
+/* Returns the entry of the server's next interface, or NULL at the end of the list. The kernel's interfaces come before
+ * the server's. struct dirent and struct dirent64 have the same layout. */
 static struct dirent64 *next_interface(const DIR *stream) {
     char name[IFNAMSIZ];
     int before = errno;
@@ -314,7 +317,7 @@ EXPORT struct dirent64 *readdir64(DIR *stream) {
     return next ? next : next_interface(stream);
 }
 
-/* Programs that were built with _FORTIFY_SOURCE call these functions. */
+/* Called by programs that were built with _FORTIFY_SOURCE. */
 EXPORT int __open_2(const char *path, int flags);
 EXPORT int __open64_2(const char *path, int flags);
 

@@ -1,5 +1,5 @@
-/* Replaces dlsym, for calls through a handle of the C library, such as ctypes.CDLL("libc.so.6"). dlsym then returns
- * this library's functions instead of the C library's. */
+/* Replaces dlsym for calls with a handle of the C library, such as those of ctypes.CDLL("libc.so.6"). dlsym then
+ * returns this library's functions instead of the C library's. */
 #define _GNU_SOURCE
 #include "library.h"
 
@@ -20,8 +20,8 @@ EARLY finder real_dlsym(void) {
     return found;
 }
 
-/* Returns this library's function in place of a function of the C library that it replaces. Returns any other function
- * unchanged, including the functions of a library that was loaded between this one and the C library. */
+/* Returns this library's function if it replaces the given function of the C library. Returns any other function
+ * unchanged, including functions of a library that was loaded between this one and the C library. */
 static void *ours(void *function) {
     const struct real *all = real();
 #define X(name)                                      \
@@ -33,15 +33,15 @@ static void *ours(void *function) {
     return function;
 }
 
-/* Forces a tail call to become a jump; gcc does so at -O2 without help. */
+/* Forces a tail call to become a jump. gcc does this at -O2 without an attribute. */
 #ifdef __clang__
 #define JUMP __attribute__((musttail))
 #else
 #define JUMP
 #endif
 
-/* The result for RTLD_NEXT depends on the address of the caller. This call is therefore a jump, so that the C library
- * sees the original caller. */
+/* The result for RTLD_NEXT depends on the caller's address. This call is therefore a jump, so that the C library sees
+ * the original caller. */
 EXPORT EARLY void *dlsym(void *restrict handle, const char *restrict name) {
     if (handle == RTLD_NEXT || handle == RTLD_DEFAULT) {
         JUMP return real_dlsym()(handle, name);

@@ -1,4 +1,4 @@
-/* ioctl: requests for facts of an interface, and for the timestamp of the last received frame. */
+/* ioctl: requests for the properties of an interface, and for the timestamp of the last received frame. */
 #define _GNU_SOURCE
 #include "library.h"
 
@@ -24,13 +24,13 @@ static bool is_of_stamp(unsigned long request) {
            request == SIOCGSTAMPNS_NEW;
 }
 
-/* struct ifreq has room for only the first 16 flags. */
+/* struct ifreq has room for the first 16 flags only. */
 static short flags_of(int index) {
     struct link_facts facts = links_facts(index);
     return (short)link_flags(&facts);
 }
 
-/* Writes the requested fact about an interface of the server. */
+/* Writes the requested property of one of the server's interfaces. */
 static int fact_of_interface(unsigned long request, struct ifreq *interface) {
     if (request == SIOCGIFNAME) {
         char name[IFNAMSIZ];

@@ -8,7 +8,7 @@
 #include <string.h>
 #include <sys/syscall.h>
 
-/* Called after a failed write. If the socket's error caused the failure, this removes the error, so that no other call
+/* Called after a failed write. If the socket's error caused the failure, removes the error, so that no other call
  * reports it. */
 static void forget_error(int fd) {
     static const int known[] = {EMSGSIZE, ECOMM, EBADMSG, EILSEQ, ETIMEDOUT};
@@ -38,8 +38,8 @@ static ssize_t isotp_sendmsg(const struct socket *sock, const struct msghdr *mes
     return answer.value;
 }
 
-/* Checks a read. The kernel refuses flags other than these. It also refuses a socket that is not bound, which cannot
- * have received anything. */
+/* Checks a read. The kernel refuses flags other than these. It also refuses an unbound socket, which cannot have
+ * received anything. */
 static int check_read(const struct socket *sock, int flags) {
     struct sockaddr_can can = {0};
     struct answer answer = {.data = &can, .room = sizeof can};

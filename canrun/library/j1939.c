@@ -16,7 +16,7 @@
 /* The maximum number of message bytes in one request: 36 full segments of 1785 bytes. */
 #define PIECE (36 * 1785)
 _Static_assert(PIECE + sizeof(struct wire_j1939) <= WIRE_LARGEST, "a request has room for a piece");
-/* How many times a request is repeated because the host has just ended. */
+/* How many times a request is repeated because the host has just exited. */
 #define TRIES 100
 
 /* ---- the host of an interface ---- */
@@ -86,7 +86,8 @@ static int j1939_connect(const struct socket *sock, const struct sockaddr *addre
 
 /* ---- options ---- */
 
-/* Returns the result of setting a flag. As in the kernel, it is the value of the flag; a negative value is an errno. */
+/* Returns the result of setting a flag. As in the kernel, the result is the value of the flag; a negative value is an
+ * errno. */
 static int flag_result(int value) {
     return value < 0 && value > -4096 ? fail(-value) : value;
 }
@@ -107,8 +108,8 @@ static int j1939_setsockopt(const struct socket *sock, int level, int option, co
         return set_filters(sock, value, length);
     }
     if (level == SOL_SOCKET && (option == SO_SNDBUF || option == SO_SNDBUFFORCE)) {
-        /* In the kernel this is the room for messages, but SO_SNDBUF of the socket pair is room for requests. So the
-         * option goes to the bridge. */
+        /* In the kernel this option sets the room for messages, but SO_SNDBUF of the socket pair is room for requests.
+         * So the option is passed to the bridge. */
         struct wire_request request = {.kind = WIRE_SOCKET_SET, .option = option};
         return length < sizeof number ? fail(EINVAL)
                : !copy_from(&request.number, value, sizeof number)
@@ -123,7 +124,7 @@ static int j1939_setsockopt(const struct socket *sock, int level, int option, co
     return result;
 }
 
-/* Gets SO_PRIORITY, which is 7 minus the priority of the socket's messages. */
+/* Reads SO_PRIORITY, which is 7 minus the priority of the socket's messages. */
 static int get_priority(const struct socket *sock, void *value, socklen_t *length, socklen_t has) {
     int priority = 0;
     struct answer answer = {.data = &priority, .room = sizeof priority};
@@ -159,7 +160,7 @@ static int j1939_getsockopt(const struct socket *sock, int level, int option, vo
 
 /* ---- writes ---- */
 
-/* Fills `pieces` with the `length` bytes of a message that begin at `from`. Returns the number of pieces. */
+/* Fills `pieces` with `length` bytes of a message, starting at offset `from`. Returns how many pieces it filled. */
 static size_t pieces_from(const struct msghdr *message, size_t from, size_t length, struct iovec *pieces) {
     size_t count = 0;
     for (size_t i = 0; i < message->msg_iovlen && length; i++) {
@@ -232,7 +233,7 @@ static ssize_t j1939_sendmsg(const struct socket *sock, const struct msghdr *mes
 
 /* ---- reads ---- */
 
-/* Adds a control message. If only a part of it fits, that part is added, as in the kernel. */
+/* Adds a control message. If only part of it fits, that part is added, as in the kernel. */
 static void put_control(struct msghdr *message, size_t room, int level, int type, const void *data, size_t length) {
     size_t used = message->msg_controllen, left = room - used;
     if (left < sizeof(struct cmsghdr)) {
@@ -247,7 +248,7 @@ static void put_control(struct msghdr *message, size_t room, int level, int type
     message->msg_controllen = used + MIN(left, CMSG_SPACE(length));
 }
 
-/* Writes the source address of a message. Adds the control messages of J1939 before those that all CAN sockets have. */
+/* Writes the source address of a message. Adds the J1939 control messages before those that all CAN sockets have. */
 int j1939_describe(struct msghdr *message, size_t room, const struct wire_way *way, int index) {
     struct sockaddr_can can = {.can_family = AF_CAN, .can_ifindex = index};
     can.can_addr.j1939.name = way->name;
@@ -319,7 +320,7 @@ static struct sock_extended_err entry_of(const struct wire_notice *notice, int s
                                       .ee_data = stamps & SOF_TIMESTAMPING_OPT_ID ? notice->key : 0};
 }
 
-/* Copies bytes into the pieces of a message. Returns the number of bytes that fitted, or -1 with errno set. */
+/* Copies bytes into the pieces of a message. Returns how many bytes fitted, or -1 with errno set. */
 static ssize_t scatter(struct msghdr *message, const char *data, size_t length) {
     size_t room = room_of(message, length), done = 0;
     for (const struct iovec *part = message->msg_iov; done < room; part++) {

@@ -12,10 +12,10 @@
 
 /* How many milliseconds to wait for the keeper's reply. This is longer than the keeper waits for the server. */
 #define PATIENCE 6000
-/* How many connections of programs may wait for the keeper at the same time. */
+/* How many connections from programs may wait for the keeper at the same time. */
 #define BACKLOG 128
 
-/* Adds data to an FNV-1a hash. */
+/* Updates an FNV-1a hash with data. */
 static uint64_t mix(uint64_t sum, const void *data, size_t length) {
     for (const unsigned char *at = data, *end = at + length; at < end; at++) {
         sum = (sum ^ *at) * 0x100000001B3u;
@@ -23,9 +23,9 @@ static uint64_t mix(uint64_t sum, const void *data, size_t length) {
     return sum;
 }
 
-/* Makes the socket name of this user's keeper for this server and these interfaces. The hash includes the names of the
- * interfaces, because an index is only a position in their list. It also includes the device and inode of the server's
- * socket file, because another server may later use the same path. */
+/* Builds the socket name of this user's keeper for this server and these interfaces. The hash includes the names of the
+ * interfaces, because an index is only a position in the list of names. It also includes the device and inode of the
+ * server's socket file, because another server may later use the same path. */
 static socklen_t name_keeper(struct sockaddr_un *name) {
     const char *server = getenv("CANBUSD_ADDRESS");
     struct stat file;
@@ -41,7 +41,7 @@ static socklen_t name_keeper(struct sockaddr_un *name) {
     return (socklen_t)(offsetof(struct sockaddr_un, sun_path) + 1 + (size_t)length);
 }
 
-/* Starts a keeper that listens at this name. Returns 0 if another process has already started it. */
+/* Starts a keeper that listens at this name. Returns 0 if another process has already started one. */
 static int start_keeper(const struct sockaddr_un *name, socklen_t length) {
     int fd = (int)syscall(SYS_socket, AF_UNIX, SOCK_SEQPACKET | SOCK_CLOEXEC | SOCK_NONBLOCK, 0), error = 0;
     if (fd < 0) {
@@ -104,7 +104,7 @@ int keeper_ask(const struct link_request *request, int copy, struct link_reply *
     socklen_t length = name_keeper(&name);
     int before = errno, error = 0;
     *reply = (struct link_reply){0};
-    /* A second try is needed if the keeper is just ending because its server has ended. */
+    /* A second attempt is needed if the keeper is just exiting because its server has exited. */
     for (int i = 0; i < 2; i++) {
         int fd = connect_keeper(&name, length);
         if (fd < 0 && errno == ECONNREFUSED && request->kind != LINK_LOOK) {

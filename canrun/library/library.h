@@ -1,7 +1,6 @@
-/* Declarations that the files of the preloaded library share.
- *
- * The library keeps no state about sockets. A CAN socket is one end of a pair of Unix sockets, and its name identifies
- * it. The name survives fork, dup, exec and SCM_RIGHTS. poll, select, epoll, fcntl and close are the kernel's own. */
+/* Declarations that the source files of the preloaded library share. The library keeps no state about sockets. A CAN
+ * socket is one end of a pair of Unix sockets, and its name identifies it. The name survives fork, dup, exec and
+ * SCM_RIGHTS. poll, select, epoll, fcntl and close are the kernel's own. */
 #ifndef LIBRARY_H
 #define LIBRARY_H
 
@@ -109,8 +108,8 @@ struct real {
 #undef X
 };
 
-/* Returns the C library's own functions. They are looked up when this library is loaded. If another library calls
- * before that, the first call looks them up. */
+/* Returns the C library's own functions. They are looked up when this library is loaded, or by the first call if
+ * another library calls earlier. */
 const struct real *real(void);
 
 /* This library replaces syscall(), so its own system calls use the C library's function. */
@@ -122,7 +121,7 @@ void *(*real_dlsym(void))(void *restrict, const char *restrict);
 /* Sets errno and returns -1. */
 int fail(int error);
 
-/* Sets errno and returns -1. With CANBUSD_RUN_DEBUG=1 it prints a line on standard error that names the refused call
+/* Sets errno and returns -1. With CANBUSD_RUN_DEBUG=1 it prints a line to standard error that names the refused call
  * and the reason. */
 int refuse(const char *what, int error, const char *why);
 
@@ -133,10 +132,10 @@ bool copy_to(void *program, const void *data, size_t length);
 /* The maximum number of pieces (iovec entries) in a message, as in the kernel. */
 #define PIECES_MOST 1024
 
-/* Returns how many of these bytes fit into the pieces of a message. */
+/* Returns how many of `length` bytes fit into the pieces of a message. */
 size_t room_of(const struct msghdr *message, size_t length);
 
-/* The parts of a reply other than its error. Data that do not fit into the buffer are cut off. */
+/* The parts of a reply other than its error. Data that does not fit into the buffer is cut off. */
 struct answer {
     int value;
     void *data;
@@ -144,18 +143,18 @@ struct answer {
 };
 
 /* Sends a request and these pieces of data to the bridge of a socket, and waits for the reply. Returns 0, or -1 with
- * errno set. `what` is the name of the call in the message about a refusal. */
+ * errno set. `what` is the name of the call, for the message about a refusal. */
 int ask(int fd, const char *what, const struct wire_request *request, const struct iovec *data, size_t pieces,
         struct answer *answer);
 
-/* Sends the request of a write that may wait for room. */
+/* Sends the request for a write that may wait for room. */
 int ask_patiently(const struct socket *sock, struct wire_request *request, const struct msghdr *message,
                   struct answer *answer);
 
-/* Sends a request together with the file descriptor `with`, and does not wait for a reply. Returns an errno, or 0. */
+/* Sends a request together with the file descriptor `with`, without waiting for a reply. Returns an errno, or 0. */
 int put_request(int fd, int with, const struct wire_request *request, const struct iovec *data, size_t pieces);
 
-/* Reports that a request could not be sent, because of this errno. Returns -1 with errno set. */
+/* Reports that a request could not be sent because of this errno. Returns -1 with errno set. */
 int refuse_unsent(const char *what, int error);
 
 /* ---- stop.c: with --wait, signals end the writes that wait for room ---- */
@@ -163,19 +162,19 @@ int refuse_unsent(const char *what, int error);
 /* Registers a write that is about to wait for its reply on this pipe. Returns NULL without --wait, or if too many
  * writes are waiting. */
 struct wait *wait_begin(int fd, int reply_from);
-/* Records that the request has been sent. Returns true if one of these signals came before that: the caller must then
- * cancel the request. */
+/* Records that the request has been sent. Returns true if SIGINT, SIGTERM or SIGHUP arrived earlier. The caller must
+ * then cancel the request. */
 bool wait_is_over(struct wait *wait);
-/* Ends the registration after the reply. Returns whether one of these signals came before the reply. */
+/* Ends the registration after the reply. Returns whether SIGINT, SIGTERM or SIGHUP arrived before the reply. */
 bool wait_end(struct wait *wait);
-/* Returns whether one of these signals has ended a wait, and no write has found room since then. */
+/* Returns whether SIGINT, SIGTERM or SIGHUP has ended a wait, and no write has found room since then. */
 bool waits_are_over(void);
 /* Records that a write has found room. */
 void waits_begin(void);
 
-/* Sends a quick write to the bridge of a CAN_RAW socket. The possible results: the write is done; it is refused, with
+/* Sends a quick write to the bridge of a CAN_RAW socket. There are four results: the write is done; it is refused, with
  * the reason in errno; it has to wait for room; or no quick write is possible. In the last two cases the caller sends
- * the write again with a pipe. */
+ * the write again, with a pipe. */
 enum quick { QUICK_DONE, QUICK_REFUSED, QUICK_NO_ROOM, QUICK_NONE };
 enum quick ask_quickly(const struct socket *sock, const struct wire_request *request, const struct msghdr *message,
                        struct answer *answer);
@@ -195,26 +194,27 @@ struct shared {
     struct loaned copy;
 };
 
-/* Returns the shared memory of a socket, which stays valid until share_leave. Returns NULL if it is not available. */
+/* Returns the shared memory of a socket, which stays valid until share_leave is called. Returns NULL if the memory is
+ * not available. */
 struct shared *share_enter(const struct socket *sock);
 void share_leave(struct shared *one);
 
-/* Asks the bridge for the file descriptor of the session that it lends now. */
+/* Requests from the bridge the file descriptor of the session that it lends now. */
 void share_borrow(struct shared *one, int fd);
 
-/* Creates the shared memory of a new socket. Returns its file descriptor, or -1 with errno set. */
+/* Creates the shared memory of a new socket. Returns the file descriptor of the memory, or -1 with errno set. */
 int share_make(const char *name);
 
-/* ---- notes.c: facts about a datagram besides its bytes ---- */
+/* ---- notes.c: notes on received datagrams ---- */
 
 /* Finds the note of a datagram that begins with these bytes. The program has just read the datagram, or peeked at it
- * (`is_peeked`). For J1939 it also finds the source and destination; for other protocols `way` is NULL. Returns false
- * if there are no notes. */
+ * (`is_peeked`). For J1939 the function also finds the source and destination; for other protocols `way` is NULL.
+ * Returns false if there are no notes. */
 bool note_of(struct wire_memory *memory, int fd, bool is_peeked, const void *head, size_t length,
              struct wire_note *note, struct wire_way *way);
 
-/* The first function returns whether this process looks for notes. The second records that a datagram was read without
- * looking for its note. */
+/* notes_are_looked_for returns whether this process looks for notes. note_plain_read records that a datagram was read
+ * without looking for its note. */
 bool notes_are_looked_for(void);
 void note_plain_read(struct wire_notes *received);
 
@@ -225,11 +225,11 @@ uint64_t last_moment(const struct wire_memory *memory, int fd);
 
 void loan_keep(struct loaned *copy, int fd, uint32_t session);
 void loan_forget(struct loaned *copy);
-/* Returns whether the bridge lends a session other than the one whose descriptor `copy` holds. */
+/* Returns whether the bridge lends a session other than the one whose descriptor is in `copy`. */
 bool loan_is_new(const struct wire_memory *memory, const struct loaned *copy);
 
-/* Makes a write through the lent session; `at` is the index of the place for its reply. TALK_DONE: the reply is in its
- * place. TALK_LEFT: the bridge must handle the text of the reply. TALK_NONE: the write cannot be made through the
+/* Performs a write through the lent session; `at` is the index of the entry for the reply. TALK_DONE: the reply is in
+ * that entry. TALK_LEFT: the bridge must handle the reply. TALK_NONE: the write cannot be performed through the
  * session. */
 enum talk { TALK_DONE, TALK_LEFT, TALK_NONE };
 enum talk loan_talk(struct wire_memory *memory, const struct loaned *copy, const struct wire_request *request,
@@ -245,7 +245,8 @@ int take_shown(int fd);
 /* Records that this socket may have an error that poll must report. */
 void note_error_of(int fd);
 
-/* The first function records that this socket has an error queue. The second returns whether a socket has one. */
+/* note_queue_of records that this socket has an error queue. has_error_queue returns whether a socket has an error
+ * queue. */
 void note_queue_of(int fd);
 bool has_error_queue(int fd);
 
@@ -254,7 +255,7 @@ uint32_t error_events(int fd, uint32_t events);
 
 /* ---- watch.c ---- */
 
-/* Does the work of ppoll if one of the sockets has an error queue. */
+/* Performs ppoll if one of the sockets has an error queue. */
 int watched_poll(struct pollfd *fds, nfds_t count, const struct timespec *timeout, const sigset_t *mask);
 
 /* ---- j1939.c ---- */
@@ -263,8 +264,8 @@ int watched_poll(struct pollfd *fds, nfds_t count, const struct timespec *timeou
  * Returns 0, or -1 with errno set. */
 int j1939_describe(struct msghdr *message, size_t room, const struct wire_way *way, int index);
 
-/* The first function returns whether the next message of a socket reports an error, which another call may already have
- * taken. The second removes that message. */
+/* has_error returns whether the next message of a socket reports an error, which another call may already have taken.
+ * drop_error removes that message. */
 bool has_error(int fd);
 void drop_error(int fd);
 
@@ -278,11 +279,11 @@ int can_socket(int type, int protocol);
  * shared memory. Returns 0, or an errno. */
 int start_bridge(int end, int memory);
 
-/* Returns the length of the server's transmit queues. If it is not known, returns the default. */
+/* Returns the length of the server's transmit queues, or the default length if it is unknown. */
 int queue_length(void);
 
-/* Return the index of the interface with this name, and the name of the interface with this index. Both return -1 with
- * errno set if there is no such interface. */
+/* index_of_name returns the index of the interface with this name. name_of_index gets the name of the interface with
+ * this index. Both return -1 with errno set if there is no such interface. */
 int index_of_name(const char *name);
 int name_of_index(int index, char name[IFNAMSIZ]);
 

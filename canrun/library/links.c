@@ -1,4 +1,4 @@
-/* The interfaces of the server as netlink links: parses the messages of a program and builds the answers. */
+/* The interfaces of the server as netlink links: parses the program's messages and builds the answers. */
 #define _GNU_SOURCE
 #include "links.h"
 
@@ -16,7 +16,7 @@
 
 /* ---- attributes ---- */
 
-/* Returns the attribute of this type, or NULL if there is none. If there are several, it returns the last one. */
+/* Returns the attribute of this type, or NULL if there is none. If there are several, returns the last one. */
 static const struct nlattr *find(const void *attributes, size_t length, unsigned type) {
     const char *at = attributes;
     const struct nlattr *found = NULL;
@@ -68,7 +68,7 @@ static const struct nlattr *attribute(const struct question *question, unsigned 
     return find(question->attributes, question->length, type);
 }
 
-/* Parses a message about links. Returns false if the message is about something else. A dump request may have a short
+/* Parses a message about links. Returns false for a message about something else. A dump request may have a short
  * header. */
 static bool read_question(const struct nlmsghdr *head, struct question *question) {
     bool is_of_link = head->nlmsg_type == RTM_GETLINK || head->nlmsg_type == RTM_NEWLINK ||
@@ -86,7 +86,7 @@ static bool read_question(const struct nlmsghdr *head, struct question *question
     return true;
 }
 
-/* Returns the index of the server's interface that the message names by index or name, or 0 if there is none. The
+/* Returns the index of the server's interface that a message specifies by index or name, or 0 if there is none. The
  * kernel's own interfaces take precedence. */
 static int index_asked(const struct question *question) {
     char name[IFNAMSIZ] = "";
@@ -131,8 +131,8 @@ bool addresses_are_asked(const struct nlmsghdr *asked) {
 
 /* ---- answers ---- */
 
-/* Adds the result of a request: an errno, or 0 if the program asked for an acknowledgement. The text `why` is used in
- * an extended acknowledgement, as the kernel sends it. */
+/* Adds the result of a request: an errno, or 0 if the program requested an acknowledgement. The string `why` is used in
+ * an extended acknowledgement, in the form that the kernel sends. */
 static void put_verdict(struct outgoing *out, const struct nlmsghdr *asked, int error, const char *why) {
     struct {
         struct nlmsghdr head;
@@ -162,7 +162,7 @@ static void put_verdict(struct outgoing *out, const struct nlmsghdr *asked, int 
     mail_put(out, LINK_ANSWER, &verdict.head, &verdict, verdict.head.nlmsg_len);
 }
 
-/* Adds the message that describes an interface. If the server does not reply, the message has no facts. */
+/* Adds the message that describes an interface. If the server does not reply, the message contains no properties. */
 static void put_link(struct outgoing *out, const struct nlmsghdr *asked, int index) {
     struct link_message message;
     struct link_reply reply;
@@ -212,8 +212,8 @@ struct link_facts links_facts(int index) {
 
 /* ---- changes ---- */
 
-/* Returns the requested bit rate. If it is not given directly, it is computed from the time quantum and the number of
- * quanta in a bit. */
+/* Returns the requested bit rate. If the request does not contain it directly, it is computed from the time quantum and
+ * the number of quanta per bit. */
 static uint32_t rate_asked(const struct nlattr *data, unsigned type) {
     struct can_bittiming timing;
     if (!get(find_in(data, type), &timing, sizeof timing)) {
@@ -240,7 +240,7 @@ static void note(const char *text) {
     }
 }
 
-/* Makes the keeper carry out a change. Returns an errno with the reason in the reply, or 0. */
+/* Makes the keeper perform a change. Returns an errno with the reason in the reply, or 0. */
 static int ask_for_change(const struct link_request *request, struct link_reply *reply) {
     int error = keeper_ask(request, -1, reply);
     if (!error) {
@@ -249,8 +249,8 @@ static int ask_for_change(const struct link_request *request, struct link_reply 
     return error;
 }
 
-/* Refuses changes of properties that only the server sets, such as names and queue lengths. Returns an errno with the
- * reason in `why`, or 0. */
+/* Refuses changes of properties that only the server can set, such as names and queue lengths. Returns an errno with
+ * the reason in `why`, or 0. */
 static int check_fixed(const struct question *question, int index, char *why) {
     static const struct {
         unsigned type;
@@ -282,12 +282,13 @@ static int check_fixed(const struct question *question, int index, char *why) {
     return 0;
 }
 
-/* Returns the flags that a request changes. As in the kernel, nonzero flags without a mask change all flags. */
+/* Returns the flags that a request changes. As in the kernel, flags that are not 0 change all flags if there is no
+ * mask. */
 static uint32_t flags_changed(const struct ifinfomsg *link) {
     return link->ifi_flags && !link->ifi_change ? UINT32_MAX : link->ifi_change;
 }
 
-/* Carries out a request to change an interface. Returns an errno with the reason in the reply, or 0. */
+/* Performs a request to change an interface. Returns an errno with the reason in the reply, or 0. */
 static int change(const struct question *question, int index, struct link_reply *reply) {
     /* The kernel accepts IFLA_LINKINFO only in RTM_NEWLINK. */
     bool has_info = question->head->nlmsg_type == RTM_NEWLINK;
@@ -332,7 +333,7 @@ int links_set_up(int index, bool is_up) {
     return ask_for_change(&request, &reply) ? refuse("ioctl", reply.error, reply.text) : 0;
 }
 
-/* If a supervisor (see ../command/static.h) uses this thread to make calls for a process, this is the process;
+/* If a supervisor (see ../command/static.h) uses this thread to make calls for a process, the ID of that process;
  * otherwise 0. */
 static __thread pid_t served;
 

@@ -1,6 +1,5 @@
-/* In virtual time: CAN_RAW writes through a session that the bridge lends. See shared/wire.h and quick.c.
- *
- * Only the thread that has the turn runs, so no other thread or process accesses the loan until this thread waits. */
+/* In virtual time: CAN_RAW writes through a session that the bridge lends. See shared/wire.h and quick.c. Only the
+ * thread that has the turn runs, so no other thread or process accesses the loan until this thread waits. */
 #define _GNU_SOURCE
 #include "library.h"
 
@@ -14,10 +13,10 @@
 #include <sys/stat.h>
 #include <sys/syscall.h>
 
-/* The lowest number for the copied file descriptor. It is high so that it does not change the numbers that the
+/* The lowest possible value of the copied file descriptor. It is high so that it does not change the numbers that the
  * program's own descriptors get. */
 #define HIGH_DESCRIPTOR 640
-/* How many seconds to wait for a reply. After that, handling the reply is left to the bridge. */
+/* How many seconds to wait for a reply. After that time the bridge handles the reply. */
 #define PATIENCE_SECONDS 5
 
 /* These functions exist only if the virtual time library is loaded. */
@@ -58,14 +57,15 @@ static bool is_lent(const struct wire_loan *loan, const struct loaned *copy) {
            loan->count < WIRE_NUMBERS && inode_of(copy->fd) == copy->inode;
 }
 
-/* Reads the frame of a write. Returns false unless the frame is a single piece, and is not an error message frame. */
+/* Reads the frame of a write. Returns false if the data has more than one piece, or if the frame is not a valid classic
+ * frame or is an error message frame. */
 static bool frame_of(const struct wire_request *request, const struct iovec *data, size_t pieces,
                      struct canfd_frame *frame) {
     return request->ifindex == WIRE_BOUND && pieces == 1 && data->iov_len == CAN_MTU &&
            copy_from(frame, data->iov_base, CAN_MTU) && !(frame->can_id & CAN_ERR_FLAG) && frame->len <= CAN_MAX_DLEN;
 }
 
-/* Returns whether the text is exactly one reply that accepts a frame, and reads the number of the frame. */
+/* Returns whether the string is exactly one reply that accepts a frame, and reads the frame's number. */
 static bool is_accepted(const char *text, size_t length, uint64_t *number) {
     static const char word[] = "< ack ", end[] = " >";
     const char *at = text + sizeof word - 1;

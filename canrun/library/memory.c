@@ -1,5 +1,5 @@
-/* Copies from and to the program's memory. The kernel makes the copy, as it does in its own calls, so a wrong address
- * gives EFAULT instead of SIGSEGV. Such a copy takes as long as two other system calls. Therefore memcpy is used for
+/* Copies from and to the program's memory. The kernel makes the copy, as in its own calls, so a wrong address results
+ * in EFAULT instead of SIGSEGV. Such a copy takes as long as two other system calls. Therefore memcpy is used for
  * memory on the caller's stack, and on the page of the last copy. */
 #define _GNU_SOURCE
 #include "library.h"
@@ -24,8 +24,8 @@ static bool is_known(uintptr_t from, size_t length, bool writes) {
     return page == (from + length - 1) / PAGE && page == __atomic_load_n(&known[writes], __ATOMIC_RELAXED);
 }
 
-/* Copies by a system call, which reports how many bytes were copied. If the system call is forbidden, for example in a
- * sandbox, memcpy makes the copy. */
+/* Copies with a system call, which reports how many bytes were copied. If the system call is forbidden, for example in
+ * a sandbox, memcpy makes the copy. */
 static bool copy(void *here, void *program, size_t length, bool writes) {
     if (!length) {
         return true;

@@ -1,4 +1,4 @@
-/* Names and indices of interfaces: if_nametoindex and similar calls. Each call first asks the kernel for its own
+/* Names and indices of interfaces: if_nametoindex and similar calls. Each call first queries the kernel's own
  * interfaces. */
 #define _GNU_SOURCE
 #include "library.h"
@@ -13,7 +13,7 @@
 #include <sys/syscall.h>
 #include <unistd.h>
 
-/* Prints once that the server has no interface with this name, and lists the names that it has. */
+/* Prints once that the server has no interface with this name, and lists the names of the server's interfaces. */
 static void note_names(const char *name) {
     static int is_said;
     char line[256];
@@ -49,7 +49,7 @@ EXPORT unsigned if_nametoindex(const char *name) {
     if (index) {
         return index;
     }
-    /* A program that has no CAN socket may be looking for an interface that is not a CAN interface. */
+    /* A program without a CAN socket may be looking for an interface that is not a CAN interface. */
     int found = find_index(name, strstr(name, "can"));
     errno = found < 0 ? errno : before;
     return found < 0 ? 0 : (unsigned)found;
@@ -68,7 +68,7 @@ EXPORT char *if_indextoname(unsigned index, char name[IF_NAMESIZE]) {
     return NULL;
 }
 
-/* Lists the kernel's interfaces and then the server's. The list is one block of memory, so that if_freenameindex can
+/* Lists the kernel's interfaces followed by the server's. The list is one block of memory, so that if_freenameindex can
  * free it. */
 static struct if_nameindex *joined(const struct if_nameindex *kernel) {
     size_t count = 0, most = INTERFACE_MOST;
@@ -110,15 +110,15 @@ struct link {
     struct rtnl_link_stats counts;
 };
 
-/* Returns whether the entry was made by this library. In the entries of the C library, the name and the counts are
- * elsewhere. */
+/* Returns whether the entry was created by this library. In the C library's entries, the name and the counts are at
+ * other addresses. */
 static bool is_ours(const struct ifaddrs *entry) {
     const struct link *link = (const struct link *)entry;
     return entry->ifa_name == link->name && entry->ifa_data == &link->counts;
 }
 
-/* Makes list entries for the server's interfaces, in one block of memory. Returns NULL if there are no interfaces, or
- * no memory. */
+/* Creates list entries for the server's interfaces, in one block of memory. Returns NULL if there are no interfaces or
+ * there is not enough memory. */
 static struct link *links(void) {
     char name[IFNAMSIZ];
     int count = 0;
@@ -137,7 +137,7 @@ static struct link *links(void) {
     return all;
 }
 
-/* Returns the place in a list where the server's interfaces begin, or the end of the list. */
+/* Returns a pointer to the list link of the server's first interface, or to the NULL link at the end of the list. */
 static struct ifaddrs **place_of_ours(struct ifaddrs **list) {
     while (*list && !is_ours(*list)) {
         list = &(*list)->ifa_next;

@@ -1,11 +1,9 @@
 /* Netlink sockets. They remain the kernel's own sockets, so poll, groups and port numbers are unchanged, and the
- * library keeps no state about them.
- *
- * If a program sends a message about one of the server's interfaces, the library sends the answer to the kernel in
- * place of the message, with a message type that the kernel does not know. The kernel refuses it and returns it, and
- * the read that finds such a refusal extracts the answer. The request for a link dump is returned in the same way and
- * answered when it is read; the kernel's links follow. On a kernel that does not return refused messages, programs do
- * not find the server's interfaces by netlink. */
+ * library keeps no state about them. If a program sends a message about one of the server's interfaces, the library
+ * sends the answer to the kernel instead, with a message type that the kernel does not support. The kernel refuses the
+ * answer and returns it, and the read that finds such a refusal extracts the answer. A request for a link dump is also
+ * returned by the kernel in this way. It is answered when it is read; the kernel's links follow. On a kernel that does
+ * not return refused messages, programs do not find the server's interfaces with netlink. */
 #define _GNU_SOURCE
 #include "library.h"
 
@@ -42,7 +40,7 @@ static bool is_mail(const struct refusal *refusal, ssize_t length) {
            (size_t)length >= sizeof *refusal + refusal->refused.nlmsg_len - sizeof refusal->refused;
 }
 
-/* Returns whether the kernel returns refused messages in full; gVisor does not. */
+/* Returns whether the kernel returns refused messages in full. gVisor does not. */
 static bool is_carried(void) {
     static int known; /* 0: not known yet; 1: yes; -1: no */
     int answer = __atomic_load_n(&known, __ATOMIC_RELAXED);
@@ -66,7 +64,7 @@ static bool is_carried(void) {
 
 /* ---- sending ---- */
 
-/* Reserves room for a message of this length. Returns NULL if there is none. */
+/* Reserves room for a message of this length. Returns NULL if there is no room. */
 static void *extend(struct outgoing *out, size_t length) {
     size_t at = NLMSG_ALIGN(out->length);
     if (at + length > sizeof out->data) {
@@ -101,7 +99,7 @@ static bool put_dump(struct outgoing *out, const struct nlmsghdr *asked, const s
     return mail_put(out, LINK_DUMP, asked, data, length);
 }
 
-/* Adds the end of a dump that has no links of the kernel. */
+/* Adds the end of a dump that contains no links of the kernel. */
 static bool put_done(struct outgoing *out, const struct nlmsghdr *asked) {
     struct {
         struct nlmsghdr head;
@@ -122,7 +120,7 @@ static bool put_plain(struct outgoing *out, const struct nlmsghdr *asked) {
     return place;
 }
 
-/* Adds the answer to a message. Returns false if the message is for the kernel. */
+/* Adds the answer to a message. Returns false if the message is meant for the kernel. */
 static bool put_answer(struct outgoing *out, const struct nlmsghdr *asked) {
     const struct dump start = {.next = INTERFACE_FIRST};
     char name[IFNAMSIZ];
@@ -135,8 +133,8 @@ static bool put_answer(struct outgoing *out, const struct nlmsghdr *asked) {
     return addresses_are_asked(asked) ? put_done(out, asked) : links_answer(asked, out);
 }
 
-/* Adds answers to the messages that are for the server, and copies the other messages unchanged. It stops at data that
- * are not a message. Returns false if no message is for the server. */
+/* Adds answers to the messages that are meant for the server, and copies the other messages unchanged. It stops at data
+ * that is not a message. Returns false if no message is meant for the server. */
 static bool replace(const char *data, size_t length, struct outgoing *out) {
     bool has_ours = false;
     for (size_t at = 0; at + sizeof(struct nlmsghdr) <= length;) {
@@ -154,13 +152,14 @@ static bool replace(const char *data, size_t length, struct outgoing *out) {
     return has_ours;
 }
 
-/* The messages of a program and the messages that replace them. They are not on the stack, because it may be small. */
+/* The messages of a program and the messages that replace them. They are not on the stack, because the stack may be
+ * small. */
 struct exchange {
     struct outgoing out;
     char data[OUTGOING];
 };
 
-/* Returns whether the program wants the texts of refusals. */
+/* Returns whether the program wants the error messages of refusals. */
 static bool wants_texts(int fd) {
     int is_wanted = 0;
     real()->getsockopt(fd, SOL_NETLINK, NETLINK_EXT_ACK, &is_wanted, &(socklen_t){sizeof is_wanted});
@@ -211,7 +210,7 @@ static ssize_t netlink_sendmsg(const struct socket *sock, const struct msghdr *m
 
 /* ---- receiving ---- */
 
-/* Copies this message to the program in place of the received one. As in the kernel, a message that does not fit is cut
+/* Copies this message to the program instead of the received one. As in the kernel, a message that does not fit is cut
  * off. */
 static ssize_t give(struct msghdr *message, const char *data, size_t length, int flags) {
     size_t done = 0;
@@ -226,7 +225,7 @@ static ssize_t give(struct msghdr *message, const char *data, size_t length, int
     return (ssize_t)(flags & MSG_TRUNC ? length : done);
 }
 
-/* Asks for the next part of a dump, or for the kernel's links after the last part. */
+/* Requests the next part of a dump or, after the last part, the kernel's links. */
 static bool go_on(int fd, const struct nlmsghdr *asked, const struct dump *dump) {
     struct outgoing *out = mmap(NULL, sizeof *out, PROT_READ | PROT_WRITE, MAP_PRIVATE | MAP_ANONYMOUS, -1, 0);
     char name[IFNAMSIZ];
@@ -250,7 +249,7 @@ static ssize_t give_dump(int fd, struct msghdr *message, const char *request, ui
     memcpy(asked, request + sizeof dump, sizeof *asked);
     memcpy(asked, request + sizeof dump, MIN((size_t)asked->nlmsg_len, sizeof asked));
     size_t room = room_of(message, sizeof part);
-    /* A read with MSG_PEEK is used to learn the length, and the read after it will have a large enough buffer. */
+    /* A program reads with MSG_PEEK to find out the length, and then reads with a buffer that is large enough. */
     size_t length = links_dump(asked, &dump, part, flags & MSG_PEEK ? sizeof part : room);
     for (size_t at = 0; at < length; at += ((struct nlmsghdr *)(part + at))->nlmsg_len) {
         ((struct nlmsghdr *)(part + at))->nlmsg_pid = port;
@@ -261,7 +260,7 @@ static ssize_t give_dump(int fd, struct msghdr *message, const char *request, ui
     return give(message, part, length, flags);
 }
 
-/* Reads the next refusal and copies its contents to the program. Returns 0 if another thread has already read it. */
+/* Reads the next refusal and copies its content to the program. Returns 0 if another thread has already read it. */
 static ssize_t take_mail(int fd, struct msghdr *message, int flags) {
     char mail[sizeof(struct refusal) + MAIL];
     struct iovec part = {mail, sizeof mail};

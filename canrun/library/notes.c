@@ -1,5 +1,5 @@
 /* Finds the notes of received datagrams. The number of unread bytes in the socket shows which note belongs to a
- * datagram. So reads that bypass the library, and reads by other threads and processes, cause no confusion. */
+ * datagram. So the notes still match if other reads bypass the library or come from other threads and processes. */
 #define _GNU_SOURCE
 #include "library.h"
 
@@ -9,7 +9,7 @@
 #include <sys/syscall.h>
 #include <time.h>
 
-/* How many times to wait for a bridge that is putting datagrams into the socket, because it may be waiting for a
+/* How many times to wait for a bridge that is writing datagrams to the socket, because the bridge may be waiting for a
  * processor. */
 #define PATIENCE 20000
 #define YIELDS 100
@@ -18,7 +18,7 @@
 #define BEING_WRITTEN 64
 
 /* The minimum and maximum number of bytes that have been read from the socket so far. They differ while the bridge is
- * putting datagrams into the socket. */
+ * writing datagrams to the socket. */
 struct span {
     int64_t least, most;
 };
@@ -44,7 +44,7 @@ static bool wait_for_bridge(int turn) {
     return turn < PATIENCE;
 }
 
-/* The notes that can be read: from `first` up to the one before `end`. */
+/* The notes that can be read: from index `first` up to, but not including, `end`. */
 struct range {
     uint64_t first, end;
 };
@@ -54,16 +54,16 @@ static struct range range_of(const struct wire_notes *received) {
     return (struct range){end > most ? end - most : 0, end};
 }
 
-/* The result of a search for a note: the number of the note, from 1, or 0 if there is none; and whether it is the only
- * match. */
+/* The result of a search for a note: the number of the note, starting at 1, or 0 if none was found; and whether it is
+ * the only match. */
 struct match {
     uint64_t at;
     bool is_one;
 };
 
 /* Searches for the note of a datagram, from the newest note to the oldest. A note at the right position in the socket
- * is best; among several, the first one after the note that was found last. If several readers have taken the datagram,
- * or a filter of the socket has cut it, its bytes identify the note. */
+ * is best; among several, the first note after the one that was found last. If several readers have taken the datagram,
+ * or a filter of the socket has cut it, the bytes of the datagram identify the note. */
 static struct match look(const struct wire_notes *received, uint64_t found, struct span span, bool is_peeked,
                          const void *head, size_t length) {
     struct range range = range_of(received);
@@ -89,7 +89,7 @@ static struct match look(const struct wire_notes *received, uint64_t found, stru
     return best;
 }
 
-/* Finds the note of a datagram, even if several notes match because the bridge is putting datagrams into the socket. If
+/* Finds the note of a datagram, even if several notes match because the bridge is writing datagrams to the socket. If
  * every read so far has looked for its note, the note after the one found last is the right one. Otherwise this
  * function waits for the bridge. */
 static uint64_t find(const struct wire_notes *received, uint64_t found, int fd, bool is_peeked, const void *head,
@@ -126,7 +126,7 @@ bool note_of(struct wire_memory *memory, int fd, bool is_peeked, const void *hea
     if (at && !is_peeked) {
         keep_found(received, found, at);
     }
-    /* A reader that is so late that its note has been overwritten gets the newest note. */
+    /* If a read is so late that its note has been overwritten, it gets the newest note. */
     at = at ? at : range_of(received).end;
     if (at) {
         *note = received->notes[(at - 1) % WIRE_NOTES];

@@ -1,4 +1,4 @@
-/* Addresses and options of CAN sockets: bind, connect, getsockname, getpeername, setsockopt, getsockopt. */
+/* Addresses and options of CAN sockets: bind, connect, getsockname, getpeername, setsockopt and getsockopt. */
 #define _GNU_SOURCE
 #include "library.h"
 
@@ -53,8 +53,8 @@ EXPORT int connect(int fd, const struct sockaddr *address, socklen_t length) {
     return HAS(sock, connect) ? sock.protocol->connect(&sock, address, length) : real()->connect(fd, address, length);
 }
 
-/* Copies a value into the program's buffer and reports its length. The reported length is the full length if
- * `is_whole`, otherwise the number of copied bytes. */
+/* Copies a value into the program's buffer and reports the length. This is the full length if `is_whole` is true,
+ * otherwise the number of copied bytes. */
 static int copy_value(void *room, socklen_t *room_length, const void *value, socklen_t length, bool is_whole) {
     socklen_t has;
     if (!copy_from(&has, room_length, sizeof has)) {
@@ -99,7 +99,7 @@ static bool is_of_device(int option) {
     return option == SO_BINDTODEVICE || option == SO_BINDTOIFINDEX;
 }
 
-/* Stores the device of SO_BINDTODEVICE. As in the kernel, a CAN socket otherwise ignores it. */
+/* Stores the device for SO_BINDTODEVICE. As in the kernel, a CAN socket otherwise ignores it. */
 static int set_device(int fd, int option, const void *value, socklen_t length) {
     struct wire_request request = {.kind = WIRE_SET_DEVICE};
     char name[IFNAMSIZ] = "";
@@ -171,7 +171,8 @@ int can_setsockopt(const struct socket *sock, int level, int option, const void 
     struct iovec data = {(void *)value, length};
     struct wire_request request = {.kind = WIRE_SET, .option = option, .length = length};
     int result = ask(sock->fd, "setsockopt", &request, &data, 1, NULL);
-    /* Like the kernel, this checks whether the option exists before it reports an invalid address of the value. */
+    /* Like the kernel, this code checks that the option exists before it reports that the value's address is invalid.
+     */
     request = (struct wire_request){.kind = WIRE_GET, .option = option};
     return result && errno == EFAULT && !ask(sock->fd, "setsockopt", &request, NULL, 0, NULL) ? fail(EFAULT) : result;
 }
@@ -182,7 +183,8 @@ EXPORT int setsockopt(int fd, int level, int option, const void *value, socklen_
                                  : real()->setsockopt(fd, level, option, value, length);
 }
 
-/* Takes the error of the socket, and the empty datagram that reports the error, so that no read finds it. */
+/* Takes the error of the socket, and the empty datagram that reports the error, so that no later read finds that
+ * datagram. */
 static int take_shown_error(int fd) {
     int error = take_error(fd);
     drop_error(fd);
@@ -209,8 +211,8 @@ static int socket_refusal(int option) {
                                      : 0;
 }
 
-/* Copies as much of a value as the kernel would. A value is cut off if the buffer is too short, except a list of
- * filters. */
+/* Copies as much of a value as the kernel would. If the buffer is too short, the value is cut off, unless it is a list
+ * of filters. */
 static int get_protocol_option(const struct socket *sock, int option, void *value, socklen_t *length) {
     char whole[WIRE_REPLY];
     struct answer answer = {.data = whole, .room = sizeof whole};

@@ -13,9 +13,9 @@
 #include <sys/sendfile.h>
 #include <sys/syscall.h>
 
-/* ---- with flags ---- */
+/* ---- calls with flags ---- */
 
-/* The flags that are known to the kernel. A call with any other flag goes to the kernel, which refuses it. */
+/* The flags that the kernel supports. A call with any other flag is passed to the kernel, which refuses it. */
 #define KNOWN_FLAGS (RWF_HIPRI | RWF_DSYNC | RWF_SYNC | RWF_NOWAIT | RWF_APPEND)
 #define HERE (-1)
 
@@ -39,7 +39,7 @@ EXPORT ssize_t pwritev64v2(int fd, const struct iovec *parts, int count, off64_t
 
 /* ---- pipes and files ---- */
 
-/* This function exists only if the virtual time library is loaded. That library does not see a wait in splice. */
+/* This function exists only if the virtual time library is loaded. That library is not notified when splice waits. */
 __attribute__((weak)) bool canbusd_virtual_turn(void);
 
 static ssize_t splice_from(int socket, off64_t *offset, int pipe, off64_t *pipe_offset, size_t length, unsigned flags) {
@@ -125,7 +125,7 @@ static int close_stream(void *fd) {
     return close((int)(intptr_t)fd);
 }
 
-/* Opens a stream on a CAN socket that reads and writes with this library's functions. */
+/* Opens a stream on a CAN socket. The stream reads and writes with this library's functions. */
 EXPORT FILE *fdopen(int fd, const char *mode) {
     static const cookie_io_functions_t calls = {read_stream, write_stream, NULL, close_stream};
     if (!is_can_socket(fd)) {
@@ -141,7 +141,7 @@ EXPORT FILE *fdopen(int fd, const char *mode) {
     return stream;
 }
 
-/* A flag of glibc for streams of files. The C library ignores the descriptor of a stream that fdopen has made here. In
+/* A glibc flag for streams of files. The C library ignores the descriptor of a stream that this fdopen has created. In
  * other streams without this flag the descriptor is arbitrary. */
 #define IS_OF_FILE 0x2000
 EXPORT int fileno(FILE *stream) {
@@ -153,7 +153,7 @@ EXPORT int fileno_unlocked(FILE *stream) {
     return fileno(stream);
 }
 
-/* ---- by number ---- */
+/* ---- calls by system call number ---- */
 
 #define FD ((int)of[0])
 #define AT(index, type) ((type)of[index])
@@ -185,7 +185,7 @@ static long call_file(long number, const long of[6]) {
     case SYS_write: return write(FD, AT(1, void *), AT(2, size_t));
     case SYS_readv: return readv(FD, AT(1, struct iovec *), AT(2, int));
     case SYS_writev: return writev(FD, AT(1, struct iovec *), AT(2, int));
-    /* The 64-bit offset takes two arguments, so the flags are the sixth. */
+    /* The 64-bit offset occupies two arguments, so the flags are the sixth argument. */
     case SYS_preadv2: return preadv2(FD, AT(1, struct iovec *), AT(2, int), AT(3, off_t), AT(5, int));
     case SYS_pwritev2: return pwritev2(FD, AT(1, struct iovec *), AT(2, int), AT(3, off_t), AT(5, int));
     case SYS_splice: return splice(FD, AT(1, off64_t *), AT(2, int), AT(3, off64_t *), AT(4, size_t), AT(5, unsigned));

@@ -1,5 +1,5 @@
-/* The length of a transmit queue, for SIOCGIFTXQLEN. No message of the server contains the length. It is therefore read
- * from the command line of the process that listens at the server's address, if that process is visible. */
+/* The length of a transmit queue, for SIOCGIFTXQLEN. No message from the server contains the length. It is therefore
+ * read from the command line of the process that listens at the server's address, if that process is visible. */
 #define _GNU_SOURCE
 #include "library.h"
 
@@ -14,7 +14,7 @@
 /* The default queue length of canbusd. */
 #define USUAL 10
 
-/* Reads a file of /proc and adds a terminating 0. Returns its length, or -1. */
+/* Reads a file in /proc and adds a terminating 0. Returns the length, or -1. */
 static ssize_t read_proc(const char *process, const char *name, char *room, size_t size) {
     char path[64];
     snprintf(path, sizeof path, "/proc/%.16s/%.16s", process, name);
@@ -30,7 +30,7 @@ static ssize_t read_proc(const char *process, const char *name, char *room, size
     return have;
 }
 
-/* Returns the queue length on a server's command line, or the default if this is another program's command line. */
+/* Returns the queue length from a server's command line, or the default if this is another program's command line. */
 static int length_of(const char *words, size_t size) {
     static const char option[] = "--txqueue";
     const size_t length = sizeof option - 1;
@@ -53,7 +53,7 @@ static int length_of_process(const char *process) {
     return size > 0 ? length_of(words, (size_t)size) : USUAL;
 }
 
-/* Returns the process that listens at a Unix socket path, or 0 if it is not visible. */
+/* Returns the ID of the process that listens at a Unix socket path, or 0 if the process is not visible. */
 static int process_at_path(const struct address *address) {
     struct ucred peer = {0};
     socklen_t length = sizeof peer;
@@ -102,7 +102,7 @@ static bool has_socket(const char *process, unsigned long inode) {
     return found;
 }
 
-/* Returns the process that listens on a port, if its program is called canbusd; otherwise 0. */
+/* Returns the ID of the process that listens on a port if its program is called canbusd; otherwise 0. */
 static int process_at_port(unsigned short port) {
     unsigned long inode = inode_of_port("/proc/net/tcp", port);
     inode = inode ? inode : inode_of_port("/proc/net/tcp6", port);

@@ -1,5 +1,5 @@
-/* Quick writes of CAN_RAW sockets: the reply comes in memory that the bridge shares (share.c), at a third of the cost
- * of a pipe. In virtual time the virtual time library waits for the reply; a key identifies the wait. */
+/* Quick writes on CAN_RAW sockets: the reply is stored in memory that the bridge shares (share.c), at a third of the
+ * cost of a pipe. In virtual time the virtual time library waits for the reply; a key identifies the wait. */
 #define _GNU_SOURCE
 #include "library.h"
 
@@ -12,7 +12,7 @@
 #include <sys/syscall.h>
 #include <time.h>
 
-/* The number of the write to a socket at which a process borrows the session that the bridge lends. */
+/* How many writes to a socket, including the current one, make a process borrow the session that the bridge lends. */
 #define BORROWING 4
 static bool is_off;
 
@@ -40,16 +40,16 @@ static int put_quick(int fd, const struct wire_quick *quick, const struct iovec 
     struct msghdr message = {.msg_iov = parts, .msg_iovlen = 1 + pieces};
     parts[0] = (struct iovec){(void *)quick, sizeof *quick};
     memcpy(parts + 1, data, pieces * sizeof *data);
-    /* The socket nearly always has room, so it is not checked first: in virtual time a check would be one more system
-     * call. */
+    /* The socket nearly always has room, so this is not checked first. In virtual time a check would cost another
+     * system call. */
     return syscall(SYS_sendmsg, fd, &message, MSG_NOSIGNAL | MSG_DONTWAIT) >= 0 ? 0
            : errno != EAGAIN                                                    ? errno
            : syscall(SYS_sendmsg, fd, &message, MSG_NOSIGNAL) >= 0              ? 0
                                                                                 : errno;
 }
 
-/* Returns whether no reply will come: the bridge has ended, or the file descriptor belonged to another socket when the
- * request was sent. */
+/* Returns whether no reply will come, because the bridge has exited, or because the file descriptor belonged to another
+ * socket when the request was sent. */
 static bool is_lost(int fd, const char *name) {
     struct pollfd polled = {fd, 0, 0};
     return memcmp(socket_of(fd).name, name, WIRE_NAME_ROOM) ||
@@ -66,7 +66,7 @@ static long wait_for_reply(struct wire_place *place, uint32_t state, uint64_t ke
                                 : syscall(SYS_futex, &place->state, FUTEX_WAIT, state, &look, NULL, 0);
 }
 
-/* Waits for the reply. Signals do not end this wait, because the server's verdict comes soon. */
+/* Waits for the reply. Signals do not end this wait, because the server's verdict arrives soon. */
 static bool await_reply(int fd, const char *name, struct wire_place *place, uint64_t key) {
     for (uint32_t state; (state = state_of(place)) != PLACE_REPLIED;) {
         long result = wait_for_reply(place, state, key);
@@ -112,7 +112,7 @@ static enum quick write_by(struct shared *one, const struct socket *sock, const 
     }
     if (!await_reply(sock->fd, sock->name, place, memory->key + quick.place)) {
         refuse_unsent("write", EPIPE);
-        return QUICK_REFUSED; /* The place stays taken, because a reply may still come. */
+        return QUICK_REFUSED; /* The entry stays in use, because a reply may still arrive. */
     }
     errno = before;
     enum quick result = get_reply(place, answer);

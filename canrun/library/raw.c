@@ -1,4 +1,4 @@
-/* CAN_RAW: writes each frame in the fastest way that is possible. */
+/* CAN_RAW: writes each frame in the fastest possible way. */
 #define _GNU_SOURCE
 #include "../shared/planted.h"
 #include "library.h"
@@ -41,7 +41,7 @@ static bool is_proper(const struct cmsghdr *control) {
     return control->cmsg_type == SO_MARK || (control->cmsg_type == SO_TIMESTAMPING && !(flags & ~STAMPS_OF_SENT));
 }
 
-/* Checks the control messages of a frame, like sock_cmsg_send of the kernel. Returns 0, or -1 with errno set. */
+/* Checks the control messages of a frame, like sock_cmsg_send in the kernel. Returns 0, or -1 with errno set. */
 static int check_control(const struct msghdr *message) {
     if (message->msg_controllen > MOST_CONTROL) {
         return fail(ENOBUFS);
@@ -60,7 +60,7 @@ static int check_control(const struct msghdr *message) {
     return 0;
 }
 
-/* Returns the interface of a write: the one in its destination address, or the one that the socket is bound to. */
+/* Returns the interface of a write: the one in its destination address, or the one to which the socket is bound. */
 static int interface_of(const struct socket *sock, int index) {
     struct sockaddr_can can = {0};
     struct answer answer = {.data = &can, .room = sizeof can};

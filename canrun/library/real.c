@@ -33,7 +33,7 @@ int fail(int error) {
     return -1;
 }
 
-/* Returns whether this is the first refusal that is caused by a limit of the server. Such a refusal is printed even
+/* Returns whether this is the first refusal that was caused by a limit of the server. This refusal is printed even
  * without CANBUSD_RUN_DEBUG. */
 static bool is_news(int error) {
     static bool is_said[2];

@@ -12,11 +12,12 @@
 #include <time.h>
 
 #define SECOND 1000000000u
-/* A value for msg_flags before a message is received. It says that the program asks only for the bytes. */
+/* A value for msg_flags before a message is received. It means that the program requests only the bytes. */
 #define BYTES_ONLY MSG_NOSIGNAL
 
-/* For Unix sockets the kernel also makes the control messages of SO_TIMESTAMP and SO_TIMESTAMPNS. This replaces the
- * kernel's timestamp in them by the server's. Returns whether one of them is a message of SO_TIMESTAMPING. */
+/* For Unix sockets the kernel also creates the control messages of SO_TIMESTAMP and SO_TIMESTAMPNS. This function
+ * replaces the kernel's timestamp in them with the server's. Returns whether one of them is a SO_TIMESTAMPING message.
+ */
 static bool correct_stamps(struct msghdr *message, uint64_t nanoseconds) {
     bool has_three = false;
     for (struct cmsghdr *one = CMSG_FIRSTHDR(message); one; one = CMSG_NXTHDR(message, one)) {
@@ -35,7 +36,7 @@ static bool correct_stamps(struct msghdr *message, uint64_t nanoseconds) {
     return has_three;
 }
 
-/* Adds a control message after those that the kernel made. */
+/* Adds a control message after those that the kernel created. */
 static void add_control(struct msghdr *message, size_t room, int type, const void *data, size_t length) {
     size_t used = CMSG_ALIGN(message->msg_controllen);
     if (used + CMSG_LEN(length) > room) {
@@ -60,7 +61,7 @@ static void make_control(struct msghdr *message, size_t room, const struct wire_
     }
 }
 
-/* Writes the address of the sender. For ISO-TP the address has no identifiers, as in the kernel. */
+/* Writes the sender's address. For ISO-TP the address contains no identifiers, as in the kernel. */
 static bool make_name(const struct socket *sock, struct msghdr *message, int ifindex) {
     struct sockaddr_can can = {.can_family = AF_CAN, .can_ifindex = ifindex};
     socklen_t length = sock->protocol->address_size;
@@ -74,7 +75,7 @@ static ssize_t no_device(void) {
 }
 
 /* Returns the error of a socket whose next datagram reports an error, or 0 if another call has already taken the error.
- * The bridge ends before its socket is closed only because of a fault. */
+ * Only a fault makes the bridge exit before its socket is closed. */
 static int error_of(int fd) {
     struct answer answer = {0};
     return ask(fd, "read", &(struct wire_request){.kind = WIRE_ERROR}, NULL, 0, &answer) ? ENODEV : answer.value;
@@ -99,8 +100,8 @@ static bool take_empty(int fd, struct wire_empty *empty) {
 }
 
 /* Receives the next message. Returns its length, or -1 with errno set. An empty datagram reports an error of the
- * socket; if another call has already taken the error, this continues with the next datagram. For J1939 an empty
- * datagram may also be a message without data. */
+ * socket. If another call has already taken that error, this function continues with the next datagram. For J1939 an
+ * empty datagram may also be a message without data. */
 static ssize_t take(int fd, struct msghdr *message, int flags, struct wire_empty *empty) {
     size_t control = message->msg_controllen;
     for (;;) {
@@ -131,7 +132,7 @@ size_t room_of(const struct msghdr *message, size_t length) {
     return room;
 }
 
-/* Copies the first bytes of a received message. Returns the number of copied bytes. */
+/* Copies the first bytes of a received message. Returns how many bytes were copied. */
 static size_t copy_head(const struct msghdr *message, size_t length, char *head, size_t room) {
     size_t done = 0;
     length = MIN(length, room);
@@ -159,7 +160,7 @@ static int describe(const struct socket *sock, struct msghdr *message, size_t co
     return 0;
 }
 
-/* Receives a message, and finds its note in the shared memory of the socket. */
+/* Receives a message, and finds the message's note in the shared memory of the socket. */
 static ssize_t receive_noted(const struct socket *sock, struct msghdr *message, int flags, struct wire_memory *memory) {
     struct wire_empty of = {0};
     char head[sizeof of.note.head];
@@ -208,7 +209,7 @@ ssize_t receive_message(const struct socket *sock, struct msghdr *message, int f
     return *length < 0 ? -1 : (ssize_t)room_of(message, (size_t)*length);
 }
 
-/* The CAN_RAW and CAN_BCM of the kernel return the number of copied bytes, even with MSG_TRUNC. */
+/* The kernel's CAN_RAW and CAN_BCM return the number of copied bytes, even with MSG_TRUNC. */
 ssize_t can_recvmsg(const struct socket *sock, struct msghdr *message, int flags) {
     ssize_t length;
     return receive_message(sock, message, flags, &length);
@@ -280,7 +281,7 @@ EXPORT ssize_t recv(int fd, void *data, size_t length, int flags) {
     return HAS(sock, recvmsg) ? receive(&sock, data, length, flags, NULL, NULL) : real()->recv(fd, data, length, flags);
 }
 
-/* As for the kernel's CAN sockets, a read of 0 bytes takes no frame. */
+/* As with the kernel's CAN sockets, a read of 0 bytes takes no frame. */
 EXPORT ssize_t read(int fd, void *data, size_t length) {
     struct socket sock = socket_of(fd);
     if (!HAS(sock, recvmsg)) {
@@ -302,7 +303,7 @@ EXPORT ssize_t readv(int fd, const struct iovec *parts, int count) {
     return room_of(&message, 1) ? sock.protocol->recvmsg(&sock, &message, 0) : 0;
 }
 
-/* Writes the remaining time to `timeout`, and returns whether the time is over. Like the kernel, recvmmsg checks this
+/* Writes the remaining time to `timeout`, and returns whether no time remains. Like the kernel, recvmmsg checks this
  * after each message. */
 static bool is_over(struct timespec *timeout, const struct timespec *end) {
     struct timespec now;
@@ -355,7 +356,7 @@ EXPORT int recvmmsg(int fd, struct mmsghdr *messages, unsigned count, int flags,
     return (int)done;
 }
 
-/* Programs that were built with _FORTIFY_SOURCE call these functions. */
+/* Called by programs that were built with _FORTIFY_SOURCE. */
 EXPORT ssize_t __read_chk(int fd, void *data, size_t length, size_t room);
 EXPORT ssize_t __recv_chk(int fd, void *data, size_t length, size_t room, int flags);
 EXPORT ssize_t __recvfrom_chk(int fd, void *restrict data, size_t length, size_t room, int flags,

@@ -1,5 +1,5 @@
-/* Sending: all calls that write to a socket. Each call waits for the server's verdict on the frame, so that it returns
- * the right error. */
+/* Sending: all calls that write to a socket. Each call waits for the server's verdict on the frame, so that it can
+ * return the right error. */
 #define _GNU_SOURCE
 #include "library.h"
 
@@ -24,8 +24,8 @@ static bool is_deaf(void) {
     return !pthread_sigmask(SIG_BLOCK, NULL, &mask) && sigismember(&mask, SIGTERM) == 1;
 }
 
-/* Returns how long a write may wait for room. It reads the signal mask only if necessary, because that is a system
- * call. */
+/* Returns how long a write may wait for room. It reads the signal mask only if necessary, because reading it is a
+ * system call. */
 static enum wire_wait wait_for_room(void) {
     return !waits_for_room ? WIRE_WAIT : waits_are_over() ? WIRE_NO_WAIT : is_deaf() ? WIRE_SHORT_WAIT : WIRE_WAIT;
 }
@@ -77,7 +77,7 @@ int read_target(const struct msghdr *message, int32_t *index) {
 /* The maximum number of pieces of a message that are sent without joining them. */
 #define PIECES 64
 
-/* Calls the protocol's function to send a message. If the message has too many pieces for one system call, they are
+/* Calls the protocol's function for sending a message. If the message has too many pieces for one system call, they are
  * joined first. */
 static ssize_t send_message(const struct socket *sock, struct msghdr *message, int flags) {
     size_t length = message->msg_iovlen <= PIECES ? 0 : room_of(message, WIRE_LARGEST + 1);

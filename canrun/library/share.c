@@ -1,9 +1,8 @@
 /* The memory that a bridge shares with the programs of its socket. It contains the replies to quick writes (quick.c)
- * and the notes of received datagrams (notes.c).
- *
- * The memory belongs to the socket with a given name, not to a file descriptor, so the library need not track close,
- * dup, fork and SCM_RIGHTS. The process that creates a socket also creates the memory; other processes ask the bridge
- * for it. Each process keeps the memory of a limited number of sockets in a cache. */
+ * and the notes of received datagrams (notes.c). The memory belongs to the socket with a given name, not to a file
+ * descriptor, so the library need not track close, dup, fork and SCM_RIGHTS. The process that creates a socket also
+ * creates the memory; other processes request it from the bridge. Each process keeps the memory of a limited number of
+ * sockets in a cache. */
 #define _GNU_SOURCE
 #include "library.h"
 
@@ -15,11 +14,12 @@
 #include <sys/resource.h>
 #include <sys/syscall.h>
 
-/* The size of the cache. The memory of a socket is in one of the FEW entries that follow the hash of its name. */
+/* The size of the cache. The memory of a socket is in one of the FEW entries that start at the hash of the socket's
+ * name. */
 #define KNOWN_BITS 8
 #define KNOWN (1u << KNOWN_BITS)
 #define FEW 16
-/* A flag in `users`: the entry is being changed to another socket, so no thread may use it. */
+/* A flag in `users`: the entry is being assigned to another socket, so no thread may use it. */
 #define IS_CHANGING (1u << 31)
 
 static struct shared known[KNOWN];
@@ -42,7 +42,7 @@ void share_leave(struct shared *one) {
     __atomic_fetch_sub(&one->users, 1, __ATOMIC_RELEASE);
 }
 
-/* Returns the Fibonacci hash of a name: each bit of the name changes the upper bits of the product. */
+/* Returns the Fibonacci hash of a name, in which each bit of the name changes the upper bits of the product. */
 static uint32_t hash_of(const char *name) {
     uint64_t hash = 0, word;
     for (size_t i = 0; i < WIRE_NAME_ROOM; i += sizeof word) {
@@ -52,7 +52,7 @@ static uint32_t hash_of(const char *name) {
     return (uint32_t)(hash >> (64 - KNOWN_BITS));
 }
 
-/* Assigns the entry to this socket. Fails if a thread is using the entry. */
+/* Assigns the entry to this socket. Returns false if a thread is using the entry. */
 static bool change(struct shared *one, const char *name, struct wire_memory *memory) {
     uint32_t users = 0;
     if (!__atomic_compare_exchange_n(&one->users, &users, IS_CHANGING, false, __ATOMIC_ACQUIRE, __ATOMIC_RELAXED)) {
@@ -84,7 +84,7 @@ static void forget_closed(void) {
 }
 
 /* Stores the memory in one of the FEW entries of this socket, in a free one if possible. A socket that loses its entry
- * has to ask for its memory again, which takes turns of virtual time. The names of sockets differ in each run, and so
+ * has to request its memory again, which takes turns of virtual time. The names of sockets differ in every run, and so
  * do their entries. */
 static bool keep(const char *name, struct wire_memory *memory) {
     static uint32_t turn;
@@ -99,7 +99,8 @@ static bool keep(const char *name, struct wire_memory *memory) {
     return false;
 }
 
-/* Finds the memory of the socket with this name and marks it as used. Returns NULL if this process does not have it. */
+/* Finds the memory of the socket with this name and marks it as used. Returns NULL if this process does not have that
+ * memory. */
 static struct shared *find(const char *name) {
     uint32_t hash = hash_of(name);
     for (uint32_t i = 0; i < FEW; i++) {
@@ -113,10 +114,10 @@ static struct shared *find(const char *name) {
     return NULL;
 }
 
-/* ---- asking for the memory ---- */
+/* ---- requesting the memory ---- */
 
-/* Receives two file descriptors from this end of a pair: that of the memory, and that of a session that may be lent. A
- * descriptor that does not come stays -1. */
+/* Receives two file descriptors from this end of a pair: the descriptor of the memory, and that of a session that may
+ * be lent. A descriptor that does not arrive remains -1. */
 static void receive_descriptors(int from, int fds[2]) {
     union {
         char room[CMSG_SPACE(2 * sizeof(int))];
@@ -155,8 +156,8 @@ static struct wire_memory *map(int memory_fd) {
     return memory == MAP_FAILED ? NULL : memory;
 }
 
-/* Asks the bridge for the memory of a socket and stores it. It checks the name, because the file descriptor may belong
- * to another socket by now. */
+/* Requests the memory of a socket from the bridge and stores it. It checks the name, because the file descriptor may
+ * belong to another socket by now. */
 static bool ask_for_memory(const struct socket *sock) {
     int before = errno, fds[2] = {-1, -1};
     ask_for_descriptors(sock->fd, fds);
@@ -190,7 +191,7 @@ void share_borrow(struct shared *one, int fd) {
     errno = before;
 }
 
-/* ---- making the memory ---- */
+/* ---- creating the memory ---- */
 
 /* Sets the size of the memory. The limit on file sizes (ulimit -f) should not apply, because the memory is not a file
  * of the program. So the limit is raised if necessary. */

@@ -12,7 +12,7 @@
 #include <time.h>
 #include <unistd.h>
 
-/* The protocols of CAN sockets, by their numbers in linux/can.h, like proto_tab of the kernel. */
+/* The protocols of CAN sockets, indexed by their numbers in linux/can.h, like proto_tab in the kernel. */
 static const struct protocol *const protocols[CAN_NPROTO] = {
     [CAN_RAW] = &raw_protocol,
     [CAN_BCM] = &bcm_protocol,
@@ -56,7 +56,7 @@ bool is_can_socket(int fd) {
     return sock.protocol && sock.protocol->family == PF_CAN;
 }
 
-/* Returns whether sockets of this type and protocol exist. If not, it sets errno like can_create of the kernel. */
+/* Returns whether sockets of this type and protocol exist. If not, sets errno like can_create in the kernel. */
 static bool has_protocol(int type, int number) {
     if (type < 0 || type > SOCK_PACKET) {
         refuse("socket", EINVAL, "there is no such type of sockets");
@@ -72,7 +72,7 @@ static bool has_protocol(int type, int number) {
     return false;
 }
 
-/* Gives a socket a unique name. Returns 0, or an errno. */
+/* Assigns a unique name to a socket. Returns 0, or an errno. */
 static int give_name(int fd, int protocol, struct sockaddr_un *name) {
     static unsigned number;
     struct timespec now;
@@ -84,8 +84,8 @@ static int give_name(int fd, int protocol, struct sockaddr_un *name) {
     return syscall(SYS_bind, fd, name, whole) ? errno : 0;
 }
 
-/* Reports why the bridge could not be started. For limits of the process or the system the errno is the same as for any
- * other socket. */
+/* Reports why the bridge could not be started. If the reason is a limit of the process or the system, the errno is the
+ * same as for any other socket. */
 static int refuse_bridge(int error) {
     bool is_limit = error == EMFILE || error == ENFILE || error == ENOMEM || error == EAGAIN;
     return refuse("socket", is_limit ? error : EPROTONOSUPPORT, strerror(error));

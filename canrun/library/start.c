@@ -1,5 +1,5 @@
-/* Starts the bridge of a socket in a way that the program does not notice: no wait call returns the bridge as a child,
- * and its end sends no SIGCHLD. */
+/* Starts the bridge of a socket so that the program does not notice: no wait call returns the bridge as a child, and
+ * the end of the bridge sends no SIGCHLD. */
 #define _GNU_SOURCE
 #include "../shared/planted.h"
 #include "library.h"
@@ -20,7 +20,7 @@
 
 #define STACK 16384
 
-/* The environment variables that the bridge needs. */
+/* The environment variables that the bridge uses. */
 static const char *const SETTINGS[] = {
     "CANBUSD_ADDRESS", "CANBUSD_INTERFACES", "CANBUSD_RUN_WAIT", "CANBUSD_RUN_VIRTUAL", PLANTED_SETTING,
 #ifdef __SANITIZE_ADDRESS__
@@ -30,8 +30,8 @@ static const char *const SETTINGS[] = {
 #define SETTING_COUNT (sizeof SETTINGS / sizeof *SETTINGS)
 
 /* Runs a function on the given stack, in a copy of the process that shares its memory, while the caller waits. Returns
- * the process number of the copy, or a negative errno. It does not use the C library's clone, which the thread
- * sanitizer would treat as a fork. */
+ * the process ID of the copy, or a negative errno. It does not use the C library's clone, which the thread sanitizer
+ * would treat as a fork. */
 #ifdef __x86_64__
 static long copy_process(int (*function)(void *), void *stack, void *argument) {
     long result;
@@ -57,8 +57,7 @@ static long copy_process(int (*function)(void *), void *stack, void *argument) {
 }
 #endif
 
-/* The data that the start of a bridge needs. They are not on the stack, because the thread of the program may have a
- * small stack. */
+/* The data for starting a bridge. It is not on the stack, because the thread of the program may have a small stack. */
 struct start {
     int end, memory, failed;
     pid_t bridge;
@@ -69,7 +68,7 @@ struct start {
 };
 
 /* For functions that do not return and so never free their stack frame. Without this attribute the address sanitizer
- * would treat the frame's memory as a stack for ever, even when it is used for other data. */
+ * would always treat the frame's memory as a stack, even when it is used for other data. */
 #define NO_RETURN __attribute__((no_sanitize("address")))
 
 /* Moves a file descriptor to this number, and keeps it open across execve. */
@@ -83,9 +82,9 @@ static void put_at(long fd, long number) {
 
 /* become_bridge and leave_child run in copies of the process that share its memory. The caller waits for the copy that
  * runs leave_child, and that copy waits for the one that runs become_bridge. leave_child executes no program, and
- * `clone` asks for no signal, so its end sends no signal. The bridge is a child of that copy, and no longer belongs to
- * this process after the copy has ended. A direct child would send SIGCHLD at its end, because execve restores that
- * signal. */
+ * `clone` requests no signal, so the end of leave_child sends no signal. The bridge is a child of the copy that runs
+ * leave_child, so after the end of that copy it no longer belongs to this process. A direct child would send SIGCHLD
+ * when it exits, because execve restores that signal. */
 NO_RETURN static int become_bridge(void *argument) {
     struct start *start = argument;
     char *words[] = {"canbusd-bridge", NULL};
@@ -137,7 +136,7 @@ static char *setting(const char *name) {
     return NULL;
 }
 
-/* Copies of the settings at the start of the program, kept because a program may clear its environment. */
+/* Copies of the settings from the start of the program. They are kept because a program may clear its environment. */
 static char *settings_before[SETTING_COUNT];
 
 __attribute__((constructor)) static void keep_settings(void) {
@@ -147,7 +146,8 @@ __attribute__((constructor)) static void keep_settings(void) {
     }
 }
 
-/* In virtual time (canrun/virtual) a bridge counts as a thread of the run. The virtual time library registers it. */
+/* In virtual time (canrun/virtual) a bridge counts as a thread of the run. The virtual time library registers the
+ * bridge. */
 extern uint32_t canbusd_virtual_bear(void) __attribute__((weak));
 extern void canbusd_virtual_born(uint32_t slot, pid_t pid) __attribute__((weak));
 
@@ -172,7 +172,7 @@ static int start_by(struct start *start) {
     uint32_t slot = is_virtual ? canbusd_virtual_bear() : 0;
     snprintf(start->slot, sizeof start->slot, "CANBUSD_RUN_SLOT=%u", slot);
     gather(start->environment, is_virtual ? start->slot : NULL);
-    /* A signal handler of the program must not run in a copy of the process. */
+    /* The program's signal handlers must not run in a copy of the process. */
     sigfillset(&all);
     pthread_sigmask(SIG_BLOCK, &all, &before);
     long child = copy_process(leave_child, start->stacks[1] + STACK, start);

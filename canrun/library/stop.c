@@ -1,8 +1,8 @@
-/* With --wait, SIGINT, SIGTERM and SIGHUP end each write that waits for room, whatever flags their handlers have. After
- * a handler with SA_RESTART the kernel would restart the system call, and the wait would continue. Therefore, while a
- * write waits, a handler of this library is called first. It makes the bridge end all waits of this process, and then
- * calls the program's handler. If the program then writes again, its writes do not wait until one of them has found
- * room. */
+/* With --wait, SIGINT, SIGTERM and SIGHUP end every write that waits for room, whatever flags their handlers have.
+ * After a handler with SA_RESTART the kernel would restart the system call, and the wait would continue. Therefore,
+ * while a write waits, a handler of this library is called first. It makes the bridge end all waits of this process,
+ * and then calls the program's handler. If the program then writes again, its writes do not wait until one of them has
+ * found room. */
 #define _GNU_SOURCE
 #include "library.h"
 
@@ -61,7 +61,7 @@ static bool is_ours(const struct sigaction *action) {
     return action->sa_flags & SA_SIGINFO && action->sa_sigaction == on_signal;
 }
 
-/* Installs the library's handler in place of the program's, if the program has one. */
+/* Replaces the program's handler with the library's, if the program has one. */
 static void replace(size_t at) {
     struct sigaction action;
     bool has_handler = !sigaction(numbers[at], NULL, &action) &&
@@ -83,7 +83,7 @@ static void put_back(size_t at) {
 }
 
 /* Counts the waits: the first one installs the library's handlers, and the last one restores the program's. Signals are
- * blocked during this, because a handler in this thread may itself write. */
+ * blocked in the meantime, because a handler in this thread may itself write. */
 static void count_users(uint32_t change) {
     sigset_t all, before;
     sigfillset(&all);

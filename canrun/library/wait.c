@@ -1,6 +1,7 @@
 /* Waiting: poll and epoll for sockets that can have an error of their own, such as ISO-TP sockets. The bridge reports
- * such an error by an empty datagram. For that the kernel reports POLLIN, but a CAN socket must report POLLERR. For
- * select there is no difference. Programs without such sockets, and all other sockets, are not affected. */
+ * such an error with an empty datagram. The kernel reports POLLIN for the datagram, but a CAN socket must report
+ * POLLERR. For select there is no difference. Programs without such sockets, and all other sockets, are not affected.
+ */
 #define _GNU_SOURCE
 #include "library.h"
 
@@ -23,7 +24,7 @@ struct noted {
     bool has_any;
 };
 /* `known`: descriptors that were sockets with an error of their own when they were last used. This is only a hint,
- * because the number may belong to another file now. `queues`: descriptors of sockets with an error queue. */
+ * because the descriptor may belong to another file now. `queues`: descriptors of sockets with an error queue. */
 static struct noted known, queues;
 
 static void note(struct noted *noted, int fd) {
@@ -113,7 +114,7 @@ EXPORT int ppoll(struct pollfd *fds, nfds_t count, const struct timespec *timeou
     return polled(fds, count, real()->ppoll(fds, count, timeout, mask));
 }
 
-/* ---- epoll: only the kernel knows the descriptor of an event, and lists it in a file of /proc ---- */
+/* ---- epoll: only the kernel stores the descriptor of an event, and lists it in a file in /proc ---- */
 
 static void mark(struct epoll_event *events, int count, int fd, uint64_t data) {
     for (int i = 0; i < count; i++) {
@@ -124,7 +125,7 @@ static void mark(struct epoll_event *events, int count, int fd, uint64_t data) {
 }
 
 /* Reads a line of the epoll's file in /proc, such as `tfd: 5 events: 19 data: 7fff0005 pos:0 ..`. Returns false if the
- * line is of another kind. */
+ * line has another form. */
 static bool read_line(const char *line, int *fd, uint64_t *data) {
     unsigned long long number;
     bool is_one = sscanf(line, "tfd: %d events: %*x data: %llx", fd, &number) == 2;
@@ -132,7 +133,7 @@ static bool read_line(const char *line, int *fd, uint64_t *data) {
     return is_one;
 }
 
-/* Corrects the events of those sockets in this epoll that have an error. */
+/* Corrects the events of the sockets in this epoll that have an error. */
 static void mark_all(int epoll, struct epoll_event *events, int count) {
     char text[4096], *line = text, *end;
     size_t have = 0;
@@ -190,7 +191,7 @@ EXPORT int epoll_pwait2(int epoll, struct epoll_event *events, int most, const s
     return epolled(epoll, events, real()->epoll_pwait2(epoll, events, most, timeout, mask));
 }
 
-/* Programs that were built with _FORTIFY_SOURCE call these functions. */
+/* Called by programs that were built with _FORTIFY_SOURCE. */
 EXPORT int __poll_chk(struct pollfd *fds, nfds_t count, int timeout, size_t room);
 EXPORT int __ppoll_chk(struct pollfd *fds, nfds_t count, const struct timespec *timeout, const sigset_t *mask,
                        size_t room);

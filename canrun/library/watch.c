@@ -1,5 +1,5 @@
 /* poll for sockets that have an error queue, such as J1939 sockets. Such a socket reports POLLERR as soon as its queue
- * has an entry, whichever events were asked for. The bridge writes to a pipe when there is an entry, and poll waits for
+ * has an entry, whichever events were requested. The bridge writes to a pipe when there is an entry, and poll waits for
  * the pipe as well as for the socket. */
 #define _GNU_SOURCE
 #include "library.h"
@@ -16,7 +16,7 @@
 struct watch {
     struct pollfd all[2 * MOST];
     nfds_t count, with_pipes;
-    int of[MOST]; /* the index of the socket that each pipe belongs to */
+    int of[MOST]; /* the index of the socket to which each pipe belongs */
 };
 
 /* Returns whether the socket has an error, or an entry in its error queue. */

@@ -41,7 +41,8 @@ bool address_read(const char *text, struct address *address) {
     return !memchr(text, ':', length) && copy(address->host, sizeof address->host, text, length);
 }
 
-/* Converts the address to a struct sockaddr. Returns its length, or 0 if the host is neither a number nor localhost. */
+/* Converts the address to a struct sockaddr. Returns the length of that struct, or 0 if the host is neither numeric nor
+ * localhost. */
 static socklen_t numeric(const struct address *address, struct sockaddr_storage *room) {
     struct sockaddr_in v4 = {.sin_family = AF_INET, .sin_port = htons(address->port)};
     struct sockaddr_in6 v6 = {.sin6_family = AF_INET6, .sin6_port = htons(address->port)};

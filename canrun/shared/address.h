@@ -17,11 +17,11 @@ struct address {
     unsigned short port;
 };
 
-/* Parses an address. Returns false if the text is not an address. */
+/* Parses an address. Returns false if the string is not an address. */
 bool address_read(const char *text, struct address *address);
 
-/* Connects to a path, or to a host that is a number or localhost. It does not resolve names, so the bridge needs no
- * resolver. Returns a file descriptor, or -1 with errno set: ENOENT if the host is neither a number nor localhost. */
+/* Connects to a path, a numeric host address or localhost. It does not resolve names, so the bridge needs no resolver.
+ * Returns a file descriptor, or -1 with errno set. The errno is ENOENT if the host is neither numeric nor localhost. */
 int address_connect(const struct address *address);
 
 #endif

@@ -6,7 +6,7 @@
 
 #define PAST_LAST (INTERFACE_FIRST + INTERFACE_MOST)
 
-/* Moves the first name of a comma-separated list to `name`. At the end of the list `name` is empty. */
+/* Moves the first name in a comma-separated list to `name`. At the end of the list `name` is empty. */
 static void next_name(const char **list, char name[IFNAMSIZ]) {
     size_t length = strcspn(*list, ",");
     memset(name, 0, IFNAMSIZ);
@@ -14,7 +14,7 @@ static void next_name(const char **list, char name[IFNAMSIZ]) {
     *list += length + ((*list)[length] == ',');
 }
 
-/* The list of interfaces at the start of the program, kept because a program may clear its environment. */
+/* The list of interfaces at the start of the program. It is kept because a program may clear its environment. */
 static char names_before[INTERFACE_NAMES];
 
 __attribute__((constructor)) static void keep_names(void) {

@@ -1,4 +1,4 @@
-/* The server's interfaces. canbusd-run asks the server for them; the library and the bridge read them from the
+/* The server's interfaces. canbusd-run requests them from the server; the library and the bridge read them from the
  * environment. */
 #ifndef INTERFACES_H
 #define INTERFACES_H
@@ -6,12 +6,12 @@
 #include <net/if.h>
 #include <stdbool.h>
 
-/* The largest number of interfaces of a server (16 buses with 16 interfaces each), and the size of the comma-separated
+/* The maximum number of interfaces of a server (16 buses with 16 interfaces each), and the size of the comma-separated
  * list of their names. */
 #define INTERFACE_MOST 256
 #define INTERFACE_NAMES (INTERFACE_MOST * IFNAMSIZ)
 /* The index of the first interface; the other interfaces follow in the server's order. The kernel numbers its own
- * interfaces from 1, and canplayer uses index 65536 for standard output. */
+ * interfaces starting at 1, and canplayer uses index 65536 for standard output. */
 #define INTERFACE_FIRST 0x100000
 
 /* Returns the names of the interfaces, separated by commas. */
@@ -20,8 +20,8 @@ const char *interface_names(void);
 /* Returns the index of the interface with this name, or 0 if the server has no such interface. */
 int interface_index(const char *name);
 
-/* Writes the name of the interface with this index. If there is no such interface, the name is empty and the result is
- * false. */
+/* Writes the name of the interface with this index. If there is no such interface, the name is empty and the function
+ * returns false. */
 bool interface_name(int index, char name[IFNAMSIZ]);
 
 #endif

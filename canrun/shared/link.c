@@ -1,4 +1,4 @@
-/* Writes an interface of the server as a netlink message: see link.h. */
+/* Describes an interface of the server in a netlink message: see link.h. */
 #include "link.h"
 
 #include <linux/can.h>
@@ -6,12 +6,12 @@
 #include <linux/if_arp.h>
 #include <string.h>
 
-/* Flags of linux/if.h that net/if.h lacks, and operational states of RFC 2863. */
+/* Flags from linux/if.h that net/if.h does not define, and operational states from RFC 2863. */
 #define FLAG_LOWER_UP 0x10000
 #define FLAG_ECHO 0x40000
 #define OPERATES_DOWN 2
 #define OPERATES_UP 6
-/* Each bus carries FD frames. This file does not know whether the bus reports each bus error (--report). */
+/* Every bus carries FD frames. This file does not know whether the bus reports each bus error (--report). */
 #define MODES CAN_CTRLMODE_FD
 /* The kernel's default queueing discipline for a device with a queue: frames are sent in the order of the writes. */
 #define QUEUEING "pfifo_fast"
@@ -60,7 +60,7 @@ static void put_rate(struct link_message *message, uint16_t type, uint32_t rate)
     }
 }
 
-/* Adds a list that contains this bit rate as the only possible one. */
+/* Adds a list with this bit rate as the only possible one. */
 static void put_only_rate(struct link_message *message, uint16_t type, uint32_t rate) {
     if (rate) {
         put_number(message, type, rate);

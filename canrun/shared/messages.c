@@ -9,7 +9,7 @@ static const char DIGITS[] = "0123456789ABCDEF";
 /* The lengths above 8 that an FD frame may have (ISO 11898-1). */
 static const uint8_t FD_LENGTHS[] = {12, 16, 20, 24, 32, 48, 64};
 
-/* Returns the shortest valid length of an FD frame that holds this many bytes. */
+/* Returns the shortest valid length of an FD frame that can hold this many bytes. */
 static unsigned fd_length(unsigned length) {
     unsigned at = 0;
     if (length <= CAN_MAX_DLEN) {
@@ -62,7 +62,7 @@ void message_of_frame(char text[COMMAND], const struct canfd_frame *frame, bool 
     *at = 0;
 }
 
-/* Returns the value of a hexadecimal digit, or -1 for another character. */
+/* Returns the value of a hexadecimal digit, or -1 for any other character. */
 static int digit(char one) {
     return one >= '0' && one <= '9'   ? one - '0'
            : one >= 'A' && one <= 'F' ? one - 'A' + 10
@@ -70,7 +70,7 @@ static int digit(char one) {
                                       : -1;
 }
 
-/* Reads up to 8 hexadecimal digits, and a space after them if there is one. Returns the number of digits. */
+/* Reads up to 8 hexadecimal digits, and a space if one follows. Returns the number of digits. */
 static int get_hex(const char **at, uint32_t *number) {
     int count = 0;
     for (*number = 0; digit(**at) >= 0 && count < 8; count++, (*at)++) {
@@ -110,7 +110,7 @@ static void get_data(const char **at, struct canfd_frame *frame) {
     }
 }
 
-/* Reads the flags of an FD frame: a digit, and a space if there is one. */
+/* Reads the flags of an FD frame: a digit, and a space if one follows. */
 static void get_flags(const char **at, struct canfd_frame *frame) {
     if (**at >= '0' && **at <= '3') {
         frame->flags |= (uint8_t)(**at - '0');
@@ -119,8 +119,8 @@ static void get_flags(const char **at, struct canfd_frame *frame) {
     }
 }
 
-/* Reads the origin of a frame: whether the frame came from the same interface or from another one, and its number at
- * the interface that sent it. Error message frames have no origin. */
+/* Reads the origin of a frame: whether the frame came from the same interface or from another one, and the frame's
+ * number on the interface that sent it. Error message frames have no origin. */
 static void get_origin(const char *at, struct item *item) {
     static const char same[] = "same ", other[] = "other ";
     at += strspn(at, " ");
@@ -143,13 +143,13 @@ static const struct kind {
              {"fdframex ", true, 0},
              {"error ", false, CAN_ERR_FLAG}};
 
-/* Reads the rest of a message after its first word. Returns false if the message contains no frame: a refusal, such as
- * `error bad id`, has no timestamp. */
+/* Reads the rest of a message after its first word. Returns false if the message contains no frame. For example, a
+ * refusal such as `error bad id` has no timestamp. */
 static bool get_item(const struct kind *kind, const char *at, struct item *item) {
     uint32_t identifier;
     uint64_t remote_length = 0;
     *item = (struct item){.is_fd = kind->is_fd};
-    /* Linux sets this flag in each FD frame that a program receives. */
+    /* Linux sets this flag in every FD frame that a program receives. */
     item->frame.flags = kind->is_fd ? CANFD_FDF : 0;
     if (at[-2] == 'x') {
         get_flags(&at, &item->frame);

@@ -16,20 +16,21 @@ struct item {
     bool is_fd;
     uint64_t moment; /* nanoseconds since 1970 */
     enum { ORIGIN_NONE, ORIGIN_SAME, ORIGIN_OTHER } origin;
-    uint64_t number;        /* the frame's number at its sender's interface, if the frame has an origin */
+    uint64_t number;        /* the frame's number on its sender's interface, if the frame has an origin */
     uint32_t message_flags; /* the flags that recvmsg returns: MSG_DONTROUTE, MSG_CONFIRM */
 };
 
 /* The size of the longest command that sends a frame. */
 #define COMMAND 320
 
-/* Writes the text of the command that sends a frame. */
+/* Writes the command that sends a frame. */
 void message_of_frame(char text[COMMAND], const struct canfd_frame *frame, bool is_fd);
 
-/* Parses a message of the server, without its < and >, into an item. Returns false if the message contains no frame. */
+/* Parses a message from the server, without its < and >, into an item. Returns false if the message contains no frame.
+ */
 bool message_to_item(const char *text, struct item *item);
 
-/* Reads a decimal number and moves `at` past its digits. Returns false if there are no digits. */
+/* Reads a decimal number and moves `at` past the digits. Returns false if there are no digits. */
 bool message_number(const char **at, uint64_t *number);
 
 #endif

@@ -30,10 +30,10 @@ struct planted {
     uint64_t moment; /* nanoseconds since 1970 */
 };
 
-/* Reads the fault from the environment. If there is none, its kind is PLANTED_NONE. */
+/* Reads the fault from the environment. If there is none, the returned kind is PLANTED_NONE. */
 struct planted planted_read(void);
 
-/* Returns whether the fault applies to frames with this identifier at this interface. */
+/* Returns whether the fault applies to frames with this identifier on this interface. */
 bool planted_is_of(const struct planted *planted, int index, canid_t identifier);
 
 #endif

@@ -1,5 +1,5 @@
-/* pthread_cancel. A cancelled thread that waits for its turn is woken. It ends once it has the turn: at the end of a
- * cancellable wait, or anywhere if its cancellation type is asynchronous. */
+/* pthread_cancel. A cancelled thread that waits for its turn is woken. After it has got the turn, it ends at the end of
+ * a cancellable wait, or at any point if its cancellation type is asynchronous. */
 #define _GNU_SOURCE
 #include "calls.h"
 

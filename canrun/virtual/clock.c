@@ -12,7 +12,7 @@
 
 /* After this many clock reads without a wait between them, 10 microseconds of virtual time pass. After each further
  * hundred reads twice as much time passes, up to a millisecond. So a busy wait ends, and it ends in the same way in
- * each run. */
+ * every run. */
 #define LOOKS 2000
 #define LOOKS_MORE 100
 #define FIRST_STEP 10000ull
@@ -94,7 +94,7 @@ EXPORT clock_t times(struct tms *used) {
     return run ? (clock_t)((run->now + UPTIME) / (SECOND / 100)) : (clock_t)result;
 }
 
-/* System information of the machine, but with the uptime of the run. */
+/* Returns the system information of the machine, but with the uptime of the run. */
 EXPORT int sysinfo(struct sysinfo *info) {
     int result = (int)answer(RAW(SYS_sysinfo, info));
     if (run && !result) {
@@ -143,7 +143,7 @@ ALSO(ntp_gettime, ntp_gettimex)
 
 /* ---- sleeps ---- */
 
-/* Sleeps until this deadline. Returns false if a signal came before it. */
+/* Sleeps until this deadline. Returns false if a signal arrived before the deadline. */
 static bool sleep_until(uint64_t deadline) {
     cancel_point();
     regain_turn();

@@ -6,7 +6,7 @@
 #include <semaphore.h>
 #include <threads.h>
 
-/* ---- condition variables, whose waiters are woken in the order of arrival ---- */
+/* ---- condition variables, whose waiting threads are woken in the order of arrival ---- */
 
 /* Some systems keep older versions of these functions under the same names. */
 #define CONDITION(name)                                                    \
@@ -112,8 +112,8 @@ EXPORT int cnd_broadcast(cnd_t *condition) {
 
 /* ---- semaphores of one process or of several processes ---- */
 
-/* CPython reads the clock for each lock that it takes, even if the lock is free. The number of reads depends on its
- * version. */
+/* CPython reads the clock for every lock that it takes, even if the lock is free. The number of reads depends on
+ * CPython's version. */
 EXPORT int sem_trywait(sem_t *semaphore) {
     REAL(sem_trywait);
     int result = real(semaphore);

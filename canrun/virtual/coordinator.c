@@ -1,6 +1,6 @@
-/* The coordinator of a run. It starts the program, gives the epoll to each process, and notices when processes end. It
- * decides in three cases: when signals are due, when a thread sleeps in a call that the library does not see, and when
- * no thread can continue. */
+/* The coordinator of a run. It starts the program, sends the epoll to each process, and notices when processes end. It
+ * chooses the next turn in three cases: when signals are due, when a thread sleeps in a call that the library does not
+ * see, and when no thread can continue. */
 #define _GNU_SOURCE
 #include "coordinator.h"
 #include "grants.h"
@@ -31,16 +31,16 @@
 #include <time.h>
 #include <unistd.h>
 
-/* The milliseconds between two checks of the thread that has the turn, and between checks while the coordinator waits
- * for new threads or for threads outside. After IDLE_LOOKS checks at which the turn had moved or its owner was running,
- * the pause doubles, up to the longest. If the owner sleeps, the pause is the shortest again. */
+/* The pause, in milliseconds, between two checks of the thread that has the turn, or of new threads or threads outside
+ * for which the coordinator waits. After IDLE_LOOKS checks at which the turn had moved or its owner was running, the
+ * pause doubles, up to the longest pause. If the owner sleeps, the pause is the shortest again. */
 #define WATCH_MS 4
 #define LONGEST_WATCH_MS 32
 #define IDLE_LOOKS 8
 #define SOON_MS 1
 #define STATUS_STUCK 125
-/* How many seconds the other programs have to end after PROGRAM. They are seconds of the run, real seconds if all
- * programs wait in vain, and processor seconds if one never waits. */
+/* How many seconds the other programs have to end after PROGRAM. These are seconds of virtual time. If all programs
+ * wait in vain, they are real seconds, and if a program never waits, seconds of processor time. */
 #define END_SECONDS 2
 /* RARELY is the number of checks between two checks of a thread's running time. PROCESSOR_SECONDS is the time between
  * two checks of the processor's load. */
@@ -48,9 +48,9 @@
 /* A thread that has the turn counts as busy after this processor time in nanoseconds. */
 #define LONG_RUN 1000000000
 #define PROCESSOR_SECONDS 0.25
-/* How many milliseconds a connecting process has to send its request. */
+/* How many milliseconds a process has after connecting to send its request. */
 #define ASK_MS 1000
-/* The length of the path of the run's memory, up to the number of its descriptor. */
+/* The length of the path of the run's memory, up to the descriptor number at its end. */
 #define PATH_SLASHES 20
 
 static struct {
@@ -62,11 +62,11 @@ static struct {
     volatile sig_atomic_t number; /* the number of a signal that ends the run */
     uint64_t seen_turn;
     int looks, idle_looks;
-    double since; /* since this real time the run has made no progress */
+    double since; /* the real time since which the run has made no progress */
     uint64_t run_before;
 } coordinator = {.root_status = -1};
 
-/* The coordinator needs no descriptors, so it does not register with itself. */
+/* The coordinator uses no descriptors in the run, so it does not register with itself. */
 bool register_process(void) {
     return false;
 }
@@ -90,7 +90,7 @@ static bool is_known(uint32_t pid) {
     return false;
 }
 
-/* Replies to a process of the run: sends it the epoll, or accepts its alarm. */
+/* Replies to a process of the run: sends the epoll to the process, or accepts its alarm. */
 static void reply_to(int fd, uint32_t pid) {
     struct pollfd polled = {fd, POLLIN, 0};
     struct request request;
@@ -108,7 +108,7 @@ static void reply_to(int fd, uint32_t pid) {
 }
 
 /* Serves the processes of the run that have connected. If a process belongs to another user, the coordinator only
- * watches for its end. Returns whether any process of the run had connected. */
+ * watches for the end of that process. Returns whether any process of the run had connected. */
 static bool admit(void) {
     bool is_any = false;
     int fd;
@@ -160,7 +160,7 @@ static void reap(void) {
     }
 }
 
-/* Handles the end of a process. Its parent gets SIGCHLD before any other thread continues. */
+/* Handles the end of a process. The parent gets SIGCHLD before any other thread continues. */
 static void process_ended(uint32_t pid, int fd) {
     uint32_t parent = proc_parent(pid);
     close(fd);
@@ -181,7 +181,7 @@ static void process_ended(uint32_t pid, int fd) {
 
 /* ---- deciding ---- */
 
-/* How many seconds the run may make no progress; 0 means no limit. */
+/* Returns how many seconds the run may make no progress; 0 means no limit. */
 static double most_stall(void) {
     return coordinator.has_ended ? END_SECONDS : coordinator.options->stall;
 }
@@ -194,8 +194,8 @@ static bool is_stalled(void) {
     return most_stall() > 0 && now - coordinator.since > most_stall();
 }
 
-/* Ends a run that makes no progress: the run fails with this text. After the end of PROGRAM it ends without a failure.
- */
+/* Ends a run that makes no progress. The run fails with this message, or ends without a failure if PROGRAM has already
+ * ended. */
 static void end_stalled(const char *text) {
     if (coordinator.has_ended) {
         coordinator.is_over = true;
@@ -238,7 +238,8 @@ static void send_alarms(void) {
     }
 }
 
-/* Ends the run at the time of --until. After the end of PROGRAM, this is the time by which the rest must have ended. */
+/* Ends the run at the time of --until. If PROGRAM has ended, this is the time by which the other programs must have
+ * ended. */
 static void end_by_until(void) {
     if (coordinator.has_ended) {
         coordinator.is_over = true;
@@ -261,7 +262,7 @@ static int wait_idle(void) {
     return 50;
 }
 
-/* Gives the turn to the next thread. If that is not possible yet, returns how many milliseconds to wait. */
+/* Gives the turn to the next thread. If this is not possible yet, returns how many milliseconds to wait. */
 static int decide(void) {
     bool ignores = false;
     for (int tries = 0;; tries++) {
@@ -296,7 +297,7 @@ static int decide(void) {
     }
 }
 
-/* The milliseconds until the next check. */
+/* Returns the milliseconds until the next check. */
 static int watch_pause(void) {
     int pause = WATCH_MS << coordinator.idle_looks / IDLE_LOOKS;
     return pause < LONGEST_WATCH_MS ? pause : LONGEST_WATCH_MS;
@@ -311,7 +312,7 @@ static void count_idle_looks(bool is_idle) {
     }
 }
 
-/* Checks whether the turn moves while a thread has it. The thread may run for a long time, but not for ever. */
+/* Checks whether the turn moves while a thread has it. The thread may run for a long time, but not indefinitely. */
 static void watch(void) {
     uint64_t turn = run->turn;
     uint32_t owner = (uint32_t)turn & NOBODY;
@@ -344,7 +345,8 @@ static void watch(void) {
     }
 }
 
-/* ---- the processor: the whole run uses one, because a thread wakes another fastest on the same processor ---- */
+/* ---- the processor: the whole run uses one, because a thread wakes another thread fastest on the same processor ----
+ */
 
 static void pin(uint32_t tid, int processor) {
     cpu_set_t one;
@@ -353,8 +355,8 @@ static void pin(uint32_t tid, int processor) {
     sched_setaffinity((pid_t)tid, sizeof one, &one);
 }
 
-/* Other programs may use the run's processor too. If the run mostly waits for that processor, it moves to the processor
- * on which this process now runs. */
+/* Other programs may use the run's processor too. If the run mostly waits for that processor, the run moves to the
+ * processor on which this process is running now. */
 static void find_processor(void) {
     static double looked_at;
     static struct usage before;
@@ -407,8 +409,8 @@ static void handle_events(int patience) {
     reap();
 }
 
-/* Ends the rest of the run after PROGRAM has ended. Programs without a handler end at once. The others get the signal
- * before any thread continues. */
+/* Ends the other programs of the run after PROGRAM has ended. Programs without a handler end at once. The others get
+ * the signal before any thread continues. */
 static void end_rest(void) {
     static uint32_t pids[TREE_MOST];
     size_t count = tree_below((uint32_t)getpid(), pids, TREE_MOST);
@@ -455,7 +457,7 @@ static void loop(void) {
     }
 }
 
-/* Returns the terminal from which the run was started. Input from this terminal comes from outside the run. */
+/* Returns the terminal from which the run was started. Input from that terminal comes from outside the run. */
 static uint64_t own_terminal(void) {
     struct stat status;
     for (int fd = 0; fd < 3; fd++) {
@@ -485,7 +487,7 @@ static bool make_run(const struct virtual_options *options) {
     coordinator_pid = getpid();
     run->turn = NOBODY;
     run->magic = RUN_MAGIC;
-    /* The path always has the same length, because addresses in programs depend on that length. */
+    /* The path always has the same length, because addresses in programs depend on its length. */
     int length = snprintf(path, sizeof path, "/proc/%d", getpid());
     snprintf(path + length, sizeof path - (size_t)length, "%.*sfd/%d", PATH_SLASHES - length, slashes, fd);
     setenv(RUN_SETTING, path, 1);
@@ -508,7 +510,7 @@ static bool make_descriptors(void) {
            !epoll_ctl(coordinator.own, EPOLL_CTL_ADD, run_epoll, &idle);
 }
 
-/* Executes the program with the signal mask that this process had at its start. */
+/* Executes the program with the signal mask that this process had when it started. */
 static void become_program(const char *file, char **words, const sigset_t *mask) {
     int here = sched_getcpu();
     pin(0, here < 0 ? 0 : here);
@@ -538,8 +540,8 @@ static int status_of(int status) {
     return WIFEXITED(status) ? WEXITSTATUS(status) : 128 + WTERMSIG(status);
 }
 
-/* Makes this process the coordinator of a run that has no program yet. Returns false if that fails. `before` gets the
- * signals that were blocked. */
+/* Makes this process the coordinator of a run that has no program yet. Returns false if that fails. `before` is set to
+ * the signals that were blocked. */
 static bool begin(const struct virtual_options *options, pid_t parent, sigset_t *before) {
     coordinator.options = options;
     prctl(PR_SET_CHILD_SUBREAPER, 1);
@@ -556,7 +558,7 @@ static bool begin(const struct virtual_options *options, pid_t parent, sigset_t 
     return true;
 }
 
-/* Takes the slot of the first program. The program is not running yet, or it waits. */
+/* Takes the slot of the first program, which is not running yet or is waiting. */
 static struct slot *first_slot(void) {
     struct slot *slot = &run->slots[take_slot()];
     slot->parent = (uint32_t)getpid();

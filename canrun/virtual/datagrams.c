@@ -28,7 +28,7 @@ static bool is_to_many(const struct sockaddr *to) {
                : IN6_IS_ADDR_MULTICAST(&six->sin6_addr);
 }
 
-/* Whether an address belongs to this machine, which is so if a socket can be bound to it. */
+/* Returns whether an address belongs to this machine, that is, whether a socket can be bound to it. */
 static bool is_here(const struct sockaddr *to) {
     struct sockaddr_in6 six;
     struct sockaddr_in *four = (struct sockaddr_in *)&six;
@@ -43,7 +43,7 @@ static bool is_here(const struct sockaddr *to) {
     return is_ours;
 }
 
-/* Whether a process has this socket. */
+/* Returns whether a process has this socket. */
 static bool has_socket(uint32_t pid, unsigned long inode) {
     char path[300], name[64], wanted[64];
     bool has_it = false;
@@ -73,7 +73,7 @@ static bool is_of_run(unsigned long inode) {
 }
 
 /* The owner of a port of this machine: the run, other programs, or no program. If no program owns the port, the kernel
- * refuses datagrams to it. */
+ * refuses datagrams to the port. */
 enum owner { OF_NOBODY, OF_OTHERS, OF_RUN };
 
 static enum owner owner_of(uint32_t port) {
@@ -97,7 +97,7 @@ static enum owner owner_of(uint32_t port) {
     return owner;
 }
 
-/* Whether a datagram to this address would leave the run. */
+/* Returns whether a datagram to this address would leave the run. */
 static bool is_outside(const struct sockaddr *to) {
     uint32_t port = port_of(to);
     if (!port || is_known(port) || is_to_many(to)) {

@@ -1,6 +1,6 @@
 /* Waits for descriptors: poll, and the common part of blocking calls. Each call first checks whether a descriptor is
  * ready, because a thread that has the turn may continue at once. If none is ready, the thread waits for its turn, with
- * its descriptors in the epoll of the run. */
+ * its descriptors in the run's epoll. */
 #define _GNU_SOURCE
 #include "calls.h"
 
@@ -59,8 +59,8 @@ static bool is_terminal(int fd) {
     return major(status.st_rdev) / 8 == TERMINALS / 8 || status.st_rdev == makedev(5, 2);
 }
 
-/* For each descriptor of this process that stays in the epoll: 1 + the slot of its thread. A closed descriptor leaves
- * the epoll by itself. If its number is used again, the new descriptor is added. */
+/* For each descriptor of this process that stays in the epoll, 1 + the index of its thread's slot. A closed descriptor
+ * leaves the epoll automatically. If its number is used again, the new descriptor is added. */
 #define STAYING 1024
 static uint16_t keepers[STAYING];
 static bool are_terminals[STAYING];
@@ -78,7 +78,7 @@ void descriptors_leave(void) {
     descriptors_forget();
 }
 
-/* Whether the epoll has this descriptor for a thread of this process that is not waiting for it now. */
+/* Returns whether the epoll contains this descriptor for a thread of this process that is not waiting for it now. */
 static bool is_idle(int fd) {
     const struct slot *slot = &run->slots[(keepers[fd] - 1) % SLOTS];
     return keepers[fd] && (keepers[fd] - 1U == my.index || slot->state != SLOT_WAITS || slot->kind != KIND_DESCRIPTOR);
@@ -97,8 +97,8 @@ static bool watch_staying(int fd, short events) {
     return is_in;
 }
 
-/* Registers a descriptor for one event. Returns the descriptor to remove after the wait: this one, or a copy if another
- * thread waits for this one. Returns -1 if the descriptor stays registered, or is always ready. */
+/* Registers a descriptor for one event. Returns the descriptor to remove after the wait, which is `fd`, or a copy of it
+ * if another thread waits for `fd`. Returns -1 if the descriptor stays registered, or is always ready. */
 static int watch(int fd, short events, bool may_stay) {
     if (may_stay && fd < STAYING && watch_staying(fd, events)) {
         return -1;
@@ -116,7 +116,7 @@ static int watch(int fd, short events, bool may_stay) {
     return other;
 }
 
-/* The events that a wait requests for a descriptor, which may be in the list several times. */
+/* Returns the events that a wait requests for a descriptor, which may be in the list several times. */
 static short events_of(const struct pollfd *fds, nfds_t count, int fd) {
     short events = 0;
     for (nfds_t i = 0; i < count; i++) {
@@ -160,7 +160,7 @@ static uint32_t wait_with_key(const struct pollfd *fds, nfds_t count, uint64_t d
 }
 
 uint32_t wait_for(const struct pollfd *fds, nfds_t count, uint64_t deadline) {
-    /* A signalfd needs another poll, because no thread reports signals that the kernel itself sends. */
+    /* With a signalfd another poll is necessary, because no thread reports signals that the kernel itself sends. */
     return wait_with_key(fds, count, deadline, 0, has_signalfds());
 }
 
@@ -262,7 +262,7 @@ bool await_later(int fd, short events, uint64_t *deadline) {
     struct pollfd polled = {fd, events, 0};
     uint32_t flags = wait_for(&polled, 1, *deadline);
     timers_fire();
-    /* If the socket has a timeout, the call is not restarted, whichever flags the handler has. */
+    /* If the socket has a timeout, the call is not restarted, whatever flags the handler has. */
     bool ends = flags & IS_INTERRUPTED && (my.has_to_return || *deadline != NEVER);
     if (ends && !(flags & HAS_EVENT && look_at(&polled, 1) > 0)) {
         return errno = EINTR, false;
@@ -286,7 +286,7 @@ bool await_ready(int fd, short events, int flags) {
     return !run || flags & MSG_DONTWAIT || await_until(fd, events, 0) || (errno == EAGAIN && is_nonblocking(fd));
 }
 
-/* Whether the call must receive all bytes that it asks for, as a stream with MSG_WAITALL does. */
+/* Returns whether the call must receive all requested bytes, as a stream with MSG_WAITALL does. */
 static bool is_whole(int fd, int flags) {
     int type = 0;
     socklen_t size = sizeof type;
@@ -337,10 +337,10 @@ EXPORT ssize_t CALL(recv)(int fd, void *data, size_t length, int flags) {
 
 #ifndef FOR_BRIDGE
 
-/* Takes the turn, for libcanbusd-run.so. Returns false without virtual time. */
+/* Takes the turn, for libcanbusd-run.so. Returns false if there is no virtual time. */
 EXPORT bool canbusd_virtual_turn(void);
-/* Sends a text, for libcanbusd-run.so, and reads the reply into the same buffer. Returns the reply's length, or -1 if
- * the text was not sent. Returns 0 if no reply came within this time, or if another thread has changed the word and
+/* Sends `text`, for libcanbusd-run.so, and reads the reply into the same buffer. Returns the reply's length, or -1 if
+ * the text was not sent. Returns 0 if no reply arrived within this time, or if another thread has changed the word and
  * woken the key. */
 EXPORT long canbusd_virtual_talk(int fd, char *text, size_t length, size_t room, uint32_t *word, uint64_t key,
                                  const struct timespec *t);

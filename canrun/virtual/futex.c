@@ -1,4 +1,4 @@
-/* Waits on a word, futex(2). This library wakes the waits that it sees. The kernel wakes the others. */
+/* Waits on a word, futex(2). This library wakes the waits that it sees. The kernel wakes the other waits. */
 #define _GNU_SOURCE
 #include "calls.h"
 #include "tell.h"
@@ -54,8 +54,8 @@ static long wait_on_word(long word, int operation, long expected, const struct t
     return wait_until(word, expected, key_of_word(word, operation), bits, deadline_of(operation, t));
 }
 
-/* Waits on a word of memory that is at other addresses in other processes. The thread that wakes it uses the same key.
- */
+/* Waits on a word of memory that other processes may have at other addresses. The thread that wakes the wait uses the
+ * same key. */
 EXPORT long canbusd_virtual_wait(uint32_t *word, uint32_t expected, uint64_t key, const struct timespec *t);
 
 long canbusd_virtual_wait(uint32_t *word, uint32_t expected, uint64_t key, const struct timespec *t) {
@@ -76,8 +76,8 @@ static struct slot *first_of(uint64_t key, uint32_t bits) {
     return first;
 }
 
-/* Wakes up to `most` threads that wait in this library, and makes up to `most_moved` others wait for another key.
- * Returns the number of woken threads; `counts_moved` adds the moved ones. */
+/* Wakes up to `most` threads that wait in this library, and makes up to `most_moved` other threads wait for another
+ * key. Returns the number of woken threads; if `counts_moved` is true, it includes the moved threads. */
 static long wake_and_move(uint64_t key, uint32_t bits, long most, uint64_t to, long most_moved, bool counts_moved) {
     long woken = 0, moved = 0;
     struct slot *slot;
@@ -101,8 +101,8 @@ static long wake_word(long word, int operation, long most, uint32_t bits) {
     return rest < 0 ? rest : woken + rest;
 }
 
-/* Does the operation of FUTEX_WAKE_OP on the second word. Returns whether the old value passes the comparison, so that
- * the waiters of that word are woken. */
+/* Performs the operation of FUTEX_WAKE_OP on the second word. Returns whether the old value passes the comparison, in
+ * which case the waits for that word are woken. */
 static bool change_word(long word, uint32_t encoded) {
     uint32_t argument = encoded >> 12 & 0xfff, compared = encoded & 0xfff, before;
     uint32_t operand = encoded >> 31 ? 1u << (argument & 31) : argument;

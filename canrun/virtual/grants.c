@@ -16,7 +16,8 @@ static struct grant {
 
 int descendant_open(uint32_t pid) {
     int fd = pid ? (int)syscall(SYS_pidfd_open, pid, 0) : -1;
-    /* If another process has got this number in the meantime, the descriptor is not of the checked process. */
+    /* If another process has got this process ID in the meantime, the descriptor does not belong to the process that
+     * was checked. */
     if (fd >= 0 && !proc_is_below(pid, (uint32_t)getpid())) {
         close(fd);
         return -1;

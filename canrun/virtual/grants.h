@@ -1,6 +1,6 @@
-/* Checks of the processes that the coordinator signals: it opened their descriptors itself, and they are its
- * descendants. The coordinator does not trust the process numbers in the run's memory, because processes with other
- * rights may write that memory. */
+/* Checks of the processes that the coordinator signals. The coordinator has opened their descriptors itself, and they
+ * are its descendants. It does not trust the process IDs in the run's memory, because processes with other privileges
+ * may write to that memory. */
 #ifndef GRANTS_H
 #define GRANTS_H
 
@@ -15,14 +15,14 @@ int descendant_open(uint32_t pid);
 /* Sends a signal to a process if it is a descendant of this one. */
 void descendant_signal(uint32_t pid, int number);
 
-/* Notes that a process has asked for the signals of its alarm. Returns false if the number is not that of an alarm, or
- * if the process is not a descendant. */
+/* Records that a process has requested the signals of its alarm. Returns false if the number is not that of an alarm,
+ * or if the process is not a descendant. */
 bool alarm_grant(uint32_t pid, const struct request *request);
 
-/* Sends the signal of this alarm. Returns false if its process has not asked for the signal, or has ended. */
+/* Sends the signal of this alarm. Returns false if the alarm's process has not requested the signal, or has ended. */
 bool alarm_signal(uint32_t place);
 
-/* Forgets the alarms of a process that has ended. */
+/* Drops the alarms of a process that has ended. */
 void alarms_forget(uint32_t pid);
 
 #endif

@@ -1,6 +1,6 @@
-/* Waits that only the kernel can end: for file locks, queues and semaphores of System V, and a listener whose queue is
- * full. Each call is tried without waiting. It is tried again before the clock moves if other threads have run in the
- * meantime. */
+/* Waits that only the kernel can end: for file locks, for System V queues and semaphores, and for a listener whose
+ * queue is full. Each call is tried without waiting. If other threads have run in the meantime, it is tried again
+ * before the clock moves. */
 #define _GNU_SOURCE
 #include "calls.h"
 

@@ -1,5 +1,5 @@
-/* Identifies a place in shared memory by its file and offset, which all processes that share the memory have in common.
- */
+/* Identifies a location in shared memory by its file and offset, which are the same in all processes that share the
+ * memory. */
 #define _GNU_SOURCE
 #include "calls.h"
 
@@ -19,7 +19,7 @@ struct mapping {
     bool is_shared;
 };
 
-/* The cached mappings. Each end of a mapping begins a new era, in which the older entries do not count. */
+/* The cached mappings. The end of any mapping begins a new era, in which the older entries are not valid. */
 static struct mapping cached[CACHED];
 static uint32_t era = 1;
 
@@ -37,7 +37,7 @@ static uint64_t number_in(const char **at, unsigned base) {
     }
 }
 
-/* Reads a line of maps, such as `7f00-7f01 rw-s 00000000 00:01 123 /name`. Returns whether the place is in this
+/* Reads a line from maps, such as `7f00-7f01 rw-s 00000000 00:01 123 /name`. Returns whether `place` is in this
  * mapping. */
 static bool is_in_line(const char *at, uint64_t place, struct mapping *found) {
     uint64_t first = number_in(&at, 16);

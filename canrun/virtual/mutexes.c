@@ -16,7 +16,8 @@ static uint64_t key_of_mutex(const pthread_mutex_t *mutex) {
 
 static _Atomic uint32_t mutex_waits;
 
-/* Whether a mutex is robust. The owner of such a mutex may die, and the kernel does not report that to the run. */
+/* Returns whether a mutex is robust. The owner of a robust mutex may die, and the kernel does not report that to the
+ * run. */
 static bool is_robust(const pthread_mutex_t *mutex) {
     return mutex->__data.__kind & 16;
 }
@@ -78,7 +79,7 @@ EXPORT int pthread_mutex_unlock(pthread_mutex_t *mutex) {
 
 ALSO(__pthread_mutex_unlock, pthread_mutex_unlock)
 
-/* Does the work that the kernel does at the end of a thread, but while the thread still has its turn. */
+/* Does what the kernel does at the end of a thread, but while the thread still has its turn. */
 void leave_mutexes(void) {
     struct robust_list_head *head;
     size_t size;

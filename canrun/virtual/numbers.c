@@ -39,7 +39,7 @@
 #define SYS_FUTEX_WAIT2 455
 #define SYS_FUTEX_REQUEUE2 456
 
-/* Ends the run, because this library does not know the call and the call may wait. */
+/* Ends the run, because the call is unknown to this library and may wait. */
 static long refuse(long number) {
     char test[TEST_ROOM];
     tell(true, "%.60s (thread %ld of process %ld) makes system call %ld, which virtual time does not know%s",
@@ -47,7 +47,7 @@ static long refuse(long number) {
     return errno = ENOSYS, -1;
 }
 
-/* Refuses io_uring like a kernel that has no io_uring, because this library does not see its waits. Reports that once.
+/* Refuses io_uring as a kernel without io_uring does, because this library does not see its waits. Reports this once.
  */
 static long refuse_io_uring(void) {
     static _Atomic bool is_said;

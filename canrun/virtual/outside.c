@@ -16,32 +16,32 @@
 #include <unistd.h>
 
 #define LIBRARY "libcanbusd-virtual.so"
-/* In a process without the library only PROGRAM has this mapping: before PROGRAM is executed, it is a copy of the
- * coordinator. */
+/* Among the processes without the library, only PROGRAM has this mapping: before PROGRAM is executed, its process is a
+ * copy of the coordinator. */
 #define MEMORY "/memfd:" RUN_MEMORY
-/* The files that a program loads after the preloaded ones. */
+/* The files that a program loads after the preloaded files. */
 #define C_LIBRARY "/libc.so."
 #define LOADER "/ld-linux"
-/* How long a program without the library may run before the coordinator reports it: nanoseconds of processor time, or
- * real seconds if it sleeps. */
+/* How long a program without the library may run before the coordinator reports it: in nanoseconds of processor time,
+ * or in real seconds if the program sleeps. */
 #define FOREIGN_RUN 300000000
 #define FOREIGN_SECONDS 1.0
-/* The number of checks after which the coordinator looks whether a program loads the library. */
+/* Every FOREIGN_LOOKS checks, the coordinator examines whether the program loads the library. */
 #define FOREIGN_LOOKS 4
-/* After this many more checks a sleeping thread that has the turn counts as asleep. */
+/* A thread that has the turn counts as asleep if it still sleeps after this many further checks. */
 #define SLEEP_LOOKS 4
 /* The value of a slot's `parent` if no thread took the slot for the process. */
 #define STRANGER UINT32_MAX
 
 /* ---- programs that do not load the library ---- */
 
-/* Whether a process has mapped the library, the run's memory, the loader, and the C library. */
+/* Which of these files a process has mapped: the library, the run's memory, the loader, and the C library. */
 struct mapped {
     bool library, memory, loader, c_library, is_hidden;
 };
 
-/* Reads the mappings of a process. The list of a process that is ending may be cut off; it is complete if it contains
- * the stack, which comes after the libraries. */
+/* Reads the mappings of a process. The list for a process that is ending may be cut off. The list is complete if it
+ * contains the stack, which comes after the libraries. */
 static struct mapped mapped_by(uint32_t pid) {
     char path[32], line[PATH_MAX + 200];
     struct mapped mapped = {false, false, false, false, false};
@@ -63,13 +63,13 @@ static struct mapped mapped_by(uint32_t pid) {
     return mapped;
 }
 
-/* Whether the loader did not load the library into a process, because the program's file gives it more rights, or
- * because the process may not open the run's memory. */
+/* Returns whether the loader did not load the library into a process, because the program's file gives it more
+ * privileges, or because the process may not open the run's memory. */
 static bool has_other_rights(uint32_t pid, const struct mapped *mapped) {
     return mapped->is_hidden || (!mapped->memory && !proc_is_of_user(pid, geteuid()));
 }
 
-/* The reason why a process is not in virtual time. NULL if it is in virtual time, or has not begun. */
+/* Returns why a process is not in virtual time, or NULL if it is in virtual time or has not begun. */
 static const char *obstacle_of(uint32_t pid) {
     char path[32], name[PATH_MAX];
     snprintf(path, sizeof path, "/proc/%u/exe", pid);
@@ -98,8 +98,8 @@ static void say_foreign(uint32_t pid, const char *obstacle) {
              obstacle);
 }
 
-/* Reports a program without the library after it has run or slept for a long time, because it may then have read the
- * real clock. */
+/* Reports a program without the library after it has run or slept for a long time, because it may have read the real
+ * clock by then. */
 static void note_foreign(uint32_t index) {
     static struct {
         uint32_t pid;
@@ -149,7 +149,7 @@ static struct called called_by(uint32_t pid, uint32_t tid) {
     return called;
 }
 
-/* Whether a system call ends by itself after some real time. */
+/* Returns whether a system call ends after some real time without another thread. */
 static bool is_timed(const struct called *called) {
     const unsigned long *a = called->arguments;
     switch (called->number) {
@@ -174,7 +174,7 @@ static bool is_timed(const struct called *called) {
     }
 }
 
-/* Whether a thread that is marked as outside has come back, and sleeps on the word of its slot. */
+/* Returns whether a thread that is marked as outside has returned, and sleeps on the word of its slot. */
 static bool waits_for_turn(uint32_t pid, uint32_t tid, const struct called *called) {
     for (uint32_t i = 0; i < slots_used() && called->number == SYS_futex; i++) {
         struct slot *slot = &run->slots[i];
@@ -188,8 +188,8 @@ static bool waits_for_turn(uint32_t pid, uint32_t tid, const struct called *call
     return false;
 }
 
-/* Ends the run if a thread is traced: the tracer stops the thread at its calls, and the tracer itself waits for turns.
- */
+/* Ends the run if a thread is traced, because the tracer stops the thread at its calls while the tracer itself waits
+ * for turns. */
 static bool is_traced(uint32_t pid, uint32_t tid, char state) {
     if (state == 't') {
         fail("%s is traced, as by strace or gdb, so it can't be in virtual time", who(pid, tid));
@@ -197,7 +197,7 @@ static bool is_traced(uint32_t pid, uint32_t tid, char state) {
     return state == 't';
 }
 
-/* Whether a thread sleeps until another thread does something. */
+/* Returns whether a thread sleeps until another thread does something. */
 static bool sleeps(uint32_t pid, uint32_t tid) {
     char state = proc_state(pid, tid);
     if (state == 'T') {
@@ -226,13 +226,13 @@ static bool sleeps(uint32_t pid, uint32_t tid) {
     return state == 'S';
 }
 
-/* How often a thread was scheduled on a processor. */
+/* Returns how often a thread was scheduled on a processor. */
 static uint64_t times_run(uint32_t pid, uint32_t tid) {
     return proc_usage(pid, tid).times;
 }
 
-/* Checks whether all threads of a process sleep, or only the thread `tid`. Adds the number of times they ran to
- * `times`. */
+/* Returns whether all threads of a process sleep. If `tid` is not 0, checks only that thread. Adds how often the
+ * checked threads ran to `times`. */
 static bool all_sleep(uint32_t pid, uint32_t tid, uint64_t *times) {
     char path[40];
     bool do_sleep = true;
@@ -299,7 +299,7 @@ bool outside_any_runs(void) {
 bool outside_sleeps(void) {
     uint64_t before, now;
     outside_strangers();
-    /* The check is done twice, because a thread may wake another one that was already checked. */
+    /* The check is done twice, because a thread may wake another thread that was already checked. */
     return one_pass(&before) && !outside_any_runs() && one_pass(&now) && before == now;
 }
 
@@ -315,8 +315,8 @@ static void take_back(uint64_t turn, bool is_stopped) {
     }
 }
 
-/* Whether the thread has slept in this turn for several checks in a row. A thread that waits for a disk or for memory
- * runs again soon. */
+/* Returns whether the thread has slept in this turn for several checks in a row. A thread that waits for a disk or for
+ * memory runs again soon. */
 static bool is_asleep_for_long(uint64_t turn, char state, uint64_t times) {
     static struct {
         uint64_t turn, times;
@@ -339,7 +339,7 @@ bool outside_watch(uint64_t turn, int looks, bool (*is_asked)(void)) {
     if (state == 'Z' || state == 'X') {
         /* If a thread ended without the library seeing it, its slot is freed here. The end of a whole process is
          * handled elsewhere. If other threads of the process are still ending, its files are not closed yet, and other
-         * programs may wait for that. */
+         * programs may wait for the files to be closed. */
         if ((pid != tid || state == 'Z') && !process_runs(pid) && turn_change(turn, NOBODY)) {
             free_slot(slot);
         }
@@ -371,7 +371,7 @@ void outside_share(uint64_t turn) {
     }
 }
 
-/* Whether a process has registered in a slot. */
+/* Returns whether a process has registered in a slot. */
 static bool has_begun(uint32_t pid) {
     for (uint32_t i = 0; i < slots_used(); i++) {
         if (run->slots[i].pid == pid && run->slots[i].tid && run->slots[i].state != SLOT_FREE) {

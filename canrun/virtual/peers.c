@@ -17,7 +17,8 @@
 
 #define NAME_SERVICES "/run/systemd/"
 
-/* Ends the run, because time does not stop for a program outside it. `host` is `, at ` and the address, or is empty. */
+/* Ends the run, because time does not stop for a program outside the run. `host` is `, at ` followed by the address, or
+ * is empty. */
 static void fail_with(const char *does, const char *what, const char *host) {
     char test[TEST_ROOM];
     tell(true,
@@ -35,8 +36,8 @@ void fail_outside(const char *does, const char *kind, const struct sockaddr *to)
     fail_with(does, what, at);
 }
 
-/* Whether a process belongs to the run, which is so if it is a descendant of the coordinator. Returns true if the
- * process has ended. */
+/* Returns whether a process belongs to the run, that is, whether it is a descendant of the coordinator. Returns true if
+ * the process has ended. */
 static bool is_of_run(uint32_t pid) {
     return proc_is_below(pid, (uint32_t)coordinator_pid) || !proc_parent(pid);
 }
@@ -105,7 +106,7 @@ struct connection {
     socklen_t length;
 };
 
-/* Tries to connect. The socket is nonblocking for this call only. */
+/* Tries to connect. The socket is nonblocking only during this call. */
 static long try_connect(void *given) {
     struct connection *it = given;
     int flags = (int)RAW(SYS_fcntl, it->fd, F_GETFL);
@@ -115,7 +116,7 @@ static long try_connect(void *given) {
     return result;
 }
 
-/* Connects to a Unix socket, and waits while the listener's queue is full. */
+/* Connects to a Unix socket, waiting while the listener's queue is full. */
 static long connect_unix(int fd, const struct sockaddr *to, socklen_t length) {
     struct connection it = {fd, to, length};
     if (RAW(SYS_fcntl, fd, F_GETFL) & O_NONBLOCK) {

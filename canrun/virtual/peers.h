@@ -5,7 +5,7 @@
 #include <stdint.h>
 #include <sys/socket.h>
 
-/* The port of an IP address, or 0. */
+/* Returns the port of an IP address, or 0. */
 uint32_t port_of(const struct sockaddr *address);
 
 /* Ends the run. The message says that this thread `does` something with a port of a program outside the run. */

@@ -1,4 +1,4 @@
-/* Opens of a named pipe, which wait for the other end. */
+/* Opens named pipes. Such a call waits for the other end of the pipe. */
 #define _GNU_SOURCE
 #include "calls.h"
 #include "random.h"
@@ -12,7 +12,7 @@ static uint64_t key_of_pipe(const struct stat *status) {
     return key_of_file(status->st_dev, status->st_ino, 0);
 }
 
-/* Whether a pipe that is open for reading has a writer. If it has none, tee returns 0. */
+/* Returns whether a pipe that is open for reading has a writer. If it has none, tee returns 0. */
 static bool has_writer(int fd) {
     int ends[2];
     if (RAW(SYS_pipe2, ends, O_CLOEXEC)) {

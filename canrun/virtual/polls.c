@@ -33,7 +33,7 @@ static int select_now(struct sets *sets) {
     return (int)answer(RAW(SYS_pselect6, sets->count, at[0], at[1], at[2], &no_time, NULL));
 }
 
-/* Copies the descriptors of the sets to `fds`. Returns their number. */
+/* Copies the descriptors of the sets to `fds`. Returns how many were copied. */
 static nfds_t take_sets(struct sets *sets, struct pollfd *fds) {
     nfds_t count = 0;
     for (int i = 0; i < 3; i++) {
@@ -63,7 +63,7 @@ static void give_sets(const struct sets *sets, int result) {
     }
 }
 
-/* Whether a signal handler has ended the wait, so that select does not poll again. */
+/* Returns whether a signal handler has ended the wait, so that select does not poll again. */
 static bool is_ended(uint32_t flags) {
     return (flags & (IS_INTERRUPTED | HAS_EVENT)) == IS_INTERRUPTED;
 }

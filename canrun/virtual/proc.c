@@ -1,4 +1,4 @@
-/* Reads facts about processes from /proc: see proc.h. */
+/* Reads information about processes from /proc: see proc.h. */
 #define _GNU_SOURCE
 #include "proc.h"
 #include "raw.h"
@@ -10,13 +10,13 @@
 #include <string.h>
 #include <time.h>
 
-/* How many seconds the sender of a signal waits until its receiver has handled it, because the receiver may wait long
- * for a processor. The other constant is the pause between two checks, in nanoseconds. */
+/* How many seconds the sender of a signal waits until the receiver has handled the signal, because the receiver may
+ * have to wait long for a processor. The other constant is the pause between two checks, in nanoseconds. */
 #define SETTLE_SECONDS 60
 #define SETTLE_PAUSE 200000
-/* The maximum number of ancestors that a process has below the coordinator. */
+/* The maximum number of ancestors that a process may have below the coordinator. */
 #define DEEPEST 1000
-/* How many times the ancestors are read again if one of them ended while they were read. */
+/* How many times the ancestors are read again if one of them ended during the read. */
 #define CLIMBS 100
 
 static char *put_number(char *at, uint32_t number) {
@@ -115,7 +115,7 @@ uint32_t proc_tracer(uint32_t pid) {
     return proc_read(pid, 0, "status", text, sizeof text) ? (uint32_t)number_in(text, "\nTracerPid:\t", 10) : 0;
 }
 
-/* The line has four numbers. The first two are the real and the effective user. */
+/* The line contains four numbers. The first two are the real and the effective user. */
 bool proc_is_of_user(uint32_t pid, uint32_t user) {
     char text[4096], *at;
     if (!proc_read(pid, 0, "status", text, sizeof text) || !(at = strstr(text, "\nUid:\t"))) {
@@ -134,8 +134,8 @@ bool proc_has_signal(uint32_t pid) {
     return pending & ~mask_in(text, "\nSigBlk:\t");
 }
 
-/* Whether a process has handled its signals, and all its threads sleep or wait for turns. A stopped process does not
- * handle signals. */
+/* Returns whether a process has handled its signals, and all its threads sleep or wait for turns. A stopped process
+ * does not handle signals. */
 static bool is_settled(uint32_t pid) {
     bool is_there = false, is_stopped = false;
     for (uint32_t i = 0; i < slots_used(); i++) {

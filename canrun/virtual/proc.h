@@ -1,4 +1,4 @@
-/* Reads facts about processes and threads from /proc. */
+/* Reads information about processes and threads from /proc. */
 #ifndef PROC_H
 #define PROC_H
 
@@ -16,7 +16,7 @@ char proc_state(uint32_t pid, uint32_t tid);
 /* Returns the parent of a process, or 0 if there is no such process. */
 uint32_t proc_parent(uint32_t pid);
 
-/* Whether a process is a descendant of `top`, or is `top` itself. */
+/* Returns whether a process is a descendant of `top`, or is `top` itself. */
 bool proc_is_below(uint32_t pid, uint32_t top);
 
 /* How long a thread has run and how long it has waited for a processor, in nanoseconds, and how often it was scheduled.
@@ -26,12 +26,12 @@ struct usage {
 };
 struct usage proc_usage(uint32_t pid, uint32_t tid);
 
-/* proc_tracer returns the tracer of this process, or 0. proc_is_of_user returns whether a process has the rights of
+/* proc_tracer returns the tracer of this process, or 0. proc_is_of_user returns whether a process has the privileges of
  * this user. */
 uint32_t proc_tracer(uint32_t pid);
 bool proc_is_of_user(uint32_t pid, uint32_t user);
 
-/* Whether a signal that is not blocked is pending for this process. */
+/* Returns whether a signal that is not blocked is pending for this process. */
 bool proc_has_signal(uint32_t pid);
 
 #endif

@@ -24,7 +24,7 @@ static uint32_t bear(void) {
     return index;
 }
 
-/* All forks of the C library call before_fork, and then in_child in the child. This includes daemon and forkpty. */
+/* All forks by the C library call before_fork, and then in_child in the child. This includes daemon and forkpty. */
 static void before_fork(void) {
     my.born = run ? bear() : NOBODY;
 }
@@ -57,7 +57,7 @@ EXPORT pid_t fork(void) {
 }
 ALSO(__fork, fork)
 
-/* Makes a copy, as fork does, instead of a child that shares the memory. The parent continues at once. */
+/* Creates a copy, as fork does, instead of a child that shares the memory. The parent continues at once. */
 EXPORT pid_t vfork(void) {
     return fork();
 }
@@ -68,7 +68,7 @@ EXPORT int forkpty(int *terminal, char *name, const struct termios *settings, co
     return after_fork(real(terminal, name, settings, size));
 }
 
-/* Forks without the handlers that the C library calls at other forks. */
+/* Forks without the handlers that the C library calls for other forks. */
 EXPORT pid_t _Fork(void) {
     REAL(_Fork);
     before_fork();
@@ -99,7 +99,7 @@ static int begin_cloned(void *given) {
     return it.routine(it.argument);
 }
 
-/* If the child would share the memory only while its parent waits, it becomes a copy, as in vfork. */
+/* If the child would share the memory only while its parent waits, the child becomes a copy, as with vfork. */
 EXPORT int clone(int (*routine)(void *), void *stack, int flags, void *argument, ...) {
     va_list list;
     va_start(list, argument);
@@ -124,7 +124,7 @@ __attribute__((constructor(102))) static void note_forks(void) {
     pthread_atfork(before_fork, NULL, in_child);
 }
 
-/* Stores the process number of a spawned child in this slot, and returns the result of the spawn. */
+/* Stores the process ID of a spawned child in this slot, and returns the result of the spawn. */
 static int spawned(uint32_t index, int error, pid_t child, pid_t *pid) {
     if (error) {
         free_slot(&run->slots[index]);
@@ -163,8 +163,8 @@ EXPORT int posix_spawnp(pid_t *restrict pid, const char *restrict file, const po
     return spawned(index, error, child, pid);
 }
 
-/* For canbusd-run's library when it starts a bridge. canbusd_virtual_bear takes a slot for the bridge, and
- * canbusd_virtual_born stores its process number. */
+/* For canbusd-run's library when it starts a bridge: canbusd_virtual_bear takes a slot for the bridge, and
+ * canbusd_virtual_born stores the bridge's process ID. */
 EXPORT uint32_t canbusd_virtual_bear(void);
 uint32_t canbusd_virtual_bear(void) {
     return run ? bear() : NOBODY;
@@ -238,7 +238,7 @@ EXPORT int waitid(idtype_t type, id_t id, siginfo_t *info, int options) {
     }
 }
 
-/* Like the C library's function, but without its wait for the shell, which is in the kernel. */
+/* Like the C library's function, which waits for the shell inside the kernel; this function does not. */
 EXPORT int system(const char *command) {
     REAL(system);
     if (!run || !command) {

@@ -1,4 +1,4 @@
-/* Random bytes and addresses of a program: they depend on the seed, and are the same in each run. */
+/* Random bytes and addresses of a program. They depend on the seed, and are the same in every run. */
 #define _GNU_SOURCE
 #include "random.h"
 #include "calls.h"
@@ -12,9 +12,9 @@
 
 /* The environment variable that pytest sets when each phase of a test begins. */
 #define TEST "PYTEST_CURRENT_TEST"
-/* Only descriptors below this number can be known as /dev/random or /dev/urandom. */
+/* Only descriptors below this number can be recorded as /dev/random or /dev/urandom. */
 #define DEVICES 1024
-/* The device numbers, as in devices.txt of Linux. */
+/* The device numbers, as in Linux's devices.txt. */
 enum { MEMORY_DEVICES = 1, RANDOM_DEVICE = 8, URANDOM_DEVICE = 9 };
 /* The maximum number of bytes that getentropy returns. */
 #define MOST_ENTROPY 256
@@ -29,7 +29,7 @@ static void fill(void *data, size_t length) {
     }
 }
 
-/* The kernel checks these arguments. Then the run's random bytes replace the kernel's. */
+/* The kernel checks the arguments of getrandom. Then the run's random bytes replace the kernel's. */
 EXPORT ssize_t getrandom(void *data, size_t length, unsigned flags) {
     ssize_t result = answer(RAW(SYS_getrandom, data, length, flags));
     if (run && result > 0) {
@@ -98,7 +98,7 @@ void random_read(int fd, const struct iovec *parts, int count, ssize_t length) {
     }
 }
 
-/* ---- the beginning of a pytest test ---- */
+/* ---- the start of a pytest test ---- */
 
 static void note_setting(const char *name, const char *value) {
     if (run && !strcmp(name, TEST)) {
@@ -125,7 +125,7 @@ EXPORT int putenv(char *text) {
     return result;
 }
 
-/* The kernel gives 16 random bytes to each program. Standard input may be a random device. */
+/* The kernel passes 16 random bytes to every program. Standard input may be a random device. */
 void start_random(void) {
     void *bytes = (void *)(uintptr_t)getauxval(AT_RANDOM);
     if (bytes) {

@@ -1,4 +1,4 @@
-/* Random bytes of a program of the run. */
+/* Random bytes for a program in the run. */
 #ifndef RANDOM_H
 #define RANDOM_H
 
@@ -11,7 +11,7 @@ void start_random(void);
 /* Called after a file that may be /dev/urandom was opened. */
 void random_opened(int fd, const char *path);
 
-/* Called after a read of this many bytes. If they are random bytes, the run's random bytes replace them. */
+/* Called after a read of this many bytes. If the bytes are random bytes, the run's random bytes replace them. */
 void random_read(int fd, const struct iovec *parts, int count, ssize_t length);
 
 #endif

@@ -1,4 +1,4 @@
-/* System calls made directly, because this library replaces the functions of the C library. */
+/* System calls that bypass the functions of the C library, because this library replaces those functions. */
 #ifndef RAW_H
 #define RAW_H
 
@@ -21,7 +21,7 @@ static inline long raw_call(long number, long a, long b, long c, long d, long e,
 /* RAW(number, arguments ..) makes a system call and returns the kernel's result. A failure is a negative errno. */
 #define RAW(...) RAW_6(__VA_ARGS__, 0, 0, 0, 0, 0, 0, 0)
 
-/* Converts a result of the kernel to a result of the C library, which sets errno. */
+/* Converts a result of the kernel to a result of the C library, and sets errno if the call failed. */
 static inline long answer(long result) {
     if (result < 0 && result > -4096) {
         errno = (int)-result;

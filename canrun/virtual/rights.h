@@ -1,4 +1,4 @@
-/* A message of one byte with a descriptor. The coordinator uses it to send the epoll of the run. */
+/* A message of one byte with a descriptor. The coordinator uses it to send the run's epoll. */
 #ifndef RIGHTS_H
 #define RIGHTS_H
 
@@ -14,7 +14,8 @@ struct rights {
     struct msghdr message;
 };
 
-/* Prepares a message with this descriptor. With -1 the message only has room for a received descriptor. */
+/* Prepares a message with this descriptor. If the descriptor is -1, the message only has room for receiving a
+ * descriptor. */
 static inline struct msghdr *rights_message(struct rights *rights, int fd) {
     *rights = (struct rights){.part = {&rights->byte, 1}};
     rights->message = (struct msghdr){.msg_iov = &rights->part,

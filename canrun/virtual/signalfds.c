@@ -1,6 +1,6 @@
 /* Descriptors that read signals. The kernel reports a signal only to the process that polls. If another process polls
- * an epoll with a signalfd for the run, the kernel removes the entry from its ready list. So a process adds its
- * signalfds again before it polls. */
+ * an epoll with a signalfd for the run, the kernel removes the signalfd's entry from the epoll's ready list. So a
+ * process adds its signalfds again before it polls. */
 #define _GNU_SOURCE
 #include "calls.h"
 
@@ -12,7 +12,7 @@
 #include <sys/signalfd.h>
 
 #define NESTED 8
-/* The event bits that an entry with EPOLLONESHOT still has after its event. */
+/* The event bits that an entry with EPOLLONESHOT still has after an event. */
 #define PRIVATE_EVENTS (EPOLLWAKEUP | EPOLLONESHOT | EPOLLET | EPOLLEXCLUSIVE)
 #define LISTED 65536
 
@@ -52,7 +52,7 @@ bool is_signalfd(int fd) {
 
 static void look(int epoll, int depth);
 
-/* Handles a line of an epoll's list, such as `tfd:        5 events:       19 data:   ff  pos:0 ..`. */
+/* Handles a line in an epoll's list, such as `tfd:        5 events:       19 data:   ff  pos:0 ..`. */
 static void look_at_entry(int epoll, const char *line, int depth) {
     int fd;
     unsigned events;

@@ -1,5 +1,6 @@
-/* Signals. A handler runs when its thread has the turn. A waiting thread gets the turn for the handler, and its wait
- * ends with EINTR. So this library wraps handlers, and the sender of a signal waits until the receiver has taken it. */
+/* Signals. A handler runs when its thread has the turn. A waiting thread gets the turn for the handler, and the
+ * thread's wait ends with EINTR. So this library wraps handlers, and the sender of a signal waits until the receiver
+ * has taken the signal. */
 #define _GNU_SOURCE
 #include "calls.h"
 
@@ -18,7 +19,7 @@ static __thread struct {
     siginfo_t infos[DEFERRED];
 } deferred;
 
-/* A copy of the wait that a slot describes, because a handler that waits overwrites the description. */
+/* A copy of the wait that a slot describes, because a handler that waits overwrites this description. */
 struct kept {
     uint32_t state, flags, kind, tries, bits;
     uint64_t deadline, key, since;
@@ -96,7 +97,7 @@ static bool is_handler(const struct sigaction *action) {
     return action->sa_handler != SIG_DFL && action->sa_handler != SIG_IGN;
 }
 
-/* Whether a signal is a fault, which is handled at once, whichever thread has the turn. */
+/* Returns whether a signal is a fault, which is handled at once, whichever thread has the turn. */
 static bool is_fault(int number) {
     return number == SIGSEGV || number == SIGBUS || number == SIGILL || number == SIGFPE || number == SIGTRAP ||
            number == SIGABRT;
@@ -146,8 +147,8 @@ EXPORT __sighandler_t sysv_signal(int number, __sighandler_t to) {
 
 ALSO(__sysv_signal, sysv_signal)
 
-/* Replaces the C library's function, which does not know the handlers of this library. SIG_HOLD blocks the signal, and
- * all other values unblock it. */
+/* Replaces the C library's function, which bypasses this library's wrapping of handlers. SIG_HOLD blocks the signal,
+ * and all other values unblock it. */
 EXPORT __sighandler_t sigset(int number, __sighandler_t to) {
     struct sigaction old;
     sigset_t one, before;

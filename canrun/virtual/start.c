@@ -17,8 +17,8 @@
 #include <sys/un.h>
 #include <unistd.h>
 
-/* The lowest number of the run's descriptor in a program, so that the program's own descriptors keep their usual
- * numbers. */
+/* The lowest value of the run's descriptor in a program. It is high so that the program's own descriptors keep their
+ * usual numbers. */
 #define HIGH_DESCRIPTOR 900
 
 /* Receives the descriptor in the coordinator's reply. Returns -1 if there is none. */
@@ -39,8 +39,8 @@ static int take_epoll(int fd) {
     return epoll;
 }
 
-/* Sends a request to the coordinator, which learns from the connection which process asks. Returns a connection for the
- * reply, or -1. */
+/* Sends a request to the coordinator, which identifies the requesting process by the connection. Returns a connection
+ * for the reply, or -1. */
 static int ask_coordinator(const struct request *request) {
     struct sockaddr_un name = {.sun_family = AF_UNIX};
     int length = snprintf(name.sun_path + 1, sizeof name.sun_path - 1, RUN_SOCKET, coordinator_pid);
@@ -71,8 +71,8 @@ bool register_process(void) {
     return epoll >= 0;
 }
 
-/* Waits for the end of the run, which also ends this program. The coordinator notices a program of another user, and
- * ends the run. */
+/* Waits for the end of the run, which also ends this program. The coordinator notices that the program belongs to
+ * another user, and ends the run. */
 static void await_end_of_run(const char *path) {
     const struct timespec second = {1, 0};
     int coordinator = atoi(path + sizeof "/proc/" - 1);
@@ -109,7 +109,8 @@ static struct run *map_run(const char *path) {
     return at == MAP_FAILED || at->magic != RUN_MAGIC ? NULL : at;
 }
 
-/* The slot of this process: its slot before execve, the slot that its parent took, or a new slot. */
+/* Returns the index of the slot of this process: its slot before execve, the slot that its parent took, or a new slot.
+ */
 static uint32_t find_slot(void) {
     uint32_t pid = (uint32_t)RAW(SYS_getpid, 0), parent = (uint32_t)RAW(SYS_getppid, 0), found = NOBODY;
     const char *given = getenv(RUN_SLOT);
@@ -153,8 +154,8 @@ static void recognize(void) {
 }
 
 #ifndef FOR_BRIDGE
-/* Ends the run if this process is traced: the tracer stops the process at its calls, and the tracer itself waits for
- * turns. */
+/* Ends the run if this process is traced, because the tracer stops the process at its calls while the tracer itself
+ * waits for turns. */
 static void end_traced(void) {
     char test[TEST_ROOM];
     if (proc_tracer((uint32_t)RAW(SYS_getpid, 0))) {
@@ -163,8 +164,8 @@ static void end_traced(void) {
     }
 }
 
-/* Ends the run if this program makes system calls itself, because this library does not see its waits. Go programs do
- * so even if they load libraries. */
+/* Ends the run if this program makes system calls without the C library, because this library does not see such waits.
+ * Go programs do so even if they load libraries. */
 static void end_bypassing(void) {
     const char *obstacle = is_server ? NULL : program_bypass(SELF);
     char test[TEST_ROOM];
@@ -207,8 +208,8 @@ __attribute__((constructor(103))) static void start(void) {
 #endif
 }
 
-/* Adds this process to the run that the environment names. The process was forked outside the run, has loaded this
- * library before, and has one thread. Returns 0, or -1 if there is no such run. */
+/* Adds this process to the run that the environment specifies. The process was forked outside the run, has already
+ * loaded this library, and has one thread. Returns 0, or -1 if there is no such run. */
 EXPORT int canbusd_virtual_enter(void);
 EXPORT int canbusd_virtual_enter(void) {
     if (!run) {

@@ -1,4 +1,4 @@
-/* Asks the coordinator to print a message of a program: see tell.h. */
+/* Asks the coordinator to print a message from a program: see tell.h. */
 #define _GNU_SOURCE
 #include "tell.h"
 #include "raw.h"
@@ -28,7 +28,7 @@ static struct notice *take_notice(void) {
     return NULL;
 }
 
-/* Passes a text to the coordinator. Returns false if that is not possible. */
+/* Passes a message to the coordinator. Returns false if that is not possible. */
 static bool put_notice(bool ends_run, const char *text) {
     struct notice *notice = take_notice();
     if (!notice) {

@@ -5,12 +5,12 @@
 
 #include <stdbool.h>
 
-/* Prints a line on standard error of the run, and does not wait until it is printed. If there is no coordinator, or no
- * free notice, the line goes to this program's own standard error. With `ends_run` the run ends with status 125, and
- * this function does not return. */
+/* Prints a line to the run's standard error, without waiting until it is printed. If there is no coordinator, or no
+ * free notice, the line is written to this program's own standard error. If `ends_run` is true, the run ends with
+ * status 125, and this function does not return. */
 void tell(bool ends_run, const char *format, ...) __attribute__((format(printf, 2, 3)));
 
-/* Returns `, in TEST` if this program runs a pytest test, or was started by one; otherwise returns an empty text. */
+/* Returns `, in TEST` if this program runs a pytest test, or was started by one; otherwise returns an empty string. */
 #define TEST_ROOM 220
 const char *tell_test(char room[TEST_ROOM]);
 

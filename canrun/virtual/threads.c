@@ -1,4 +1,4 @@
-/* Threads: how they begin and end, and waits until they end. */
+/* Threads: how they begin and end, and how other threads wait for their end. */
 #define _GNU_SOURCE
 #include "locks.h"
 
@@ -6,8 +6,8 @@
 #include <stdlib.h>
 #include <threads.h>
 
-/* How long a CPython thread waits for the interpreter before it asks the thread that owns it to release it: 5 ms. Such
- * a wait lets the coordinator give the turn to the waiting thread if the owner computes for long. */
+/* How long a CPython thread waits for the interpreter before it requests the interpreter from the thread that owns it:
+ * 5 ms. If the owner computes for a long time, such a wait lets the coordinator give the turn to the waiting thread. */
 #define SWITCH_INTERVAL 5000000
 
 bool is_python(void) {
@@ -46,7 +46,8 @@ struct beginning {
 
 static pthread_key_t at_end;
 
-/* Ends a thread. It has to run after the destructors of other keys, so it puts off its own call as long as possible. */
+/* Called at the end of a thread. It must run after the destructors of other keys, so it postpones its own call as often
+ * as possible. */
 static void thread_ends(void *count) {
     uintptr_t left = (uintptr_t)count;
     struct slot *slot = my.slot;
@@ -63,7 +64,7 @@ static void thread_ends(void *count) {
     } while (!begin_deciding());
     leave_mutexes();
     wake(key_of((void *)(uintptr_t)pthread_self(), OF_END), INT_MAX);
-    /* No thread waits for the end of a first thread, because it exists as long as its process. */
+    /* No thread waits for the end of a first thread, because the first thread exists as long as its process. */
     run->ending = slot->tid != slot->pid ? (uint64_t)slot->pid << 32 | slot->tid : 0;
     free_slot(slot);
     uint32_t next = next_turn(false);

@@ -1,7 +1,7 @@
-/* Timers that programs read. The descriptor of such a timer is a kernel timerfd that never runs; its interval contains
- * the number of the run's timer. When the timer expires, a process with the descriptor writes the number of expirations
- * into the timerfd. That call fails for any other file, so no data are written to a file that now has the same
- * descriptor number. */
+/* Timers that programs read. The descriptor of such a timer is a kernel timerfd that never runs; the timerfd's interval
+ * contains the number of the run's timer. When the timer expires, a process with the descriptor writes the number of
+ * expirations into the timerfd. That call fails for any other file, so no data is written to a file that now has the
+ * same descriptor number. */
 #define _GNU_SOURCE
 #include "calls.h"
 #include "tell.h"
@@ -19,10 +19,10 @@
 /* The interval has this many seconds, and the timer's number as nanoseconds. No program uses an interval of 126 years.
  */
 #define OURS 4000000000
-/* The limit at which the part of the number above the place starts again from zero. */
+/* The limit at which the part of the number above the index starts again at zero. */
 #define MOST_NUMBERS 900000
 
-/* The timers for which this process has descriptors. Each entry has one descriptor of its timer. */
+/* The timers for which this process has descriptors. Each entry contains one descriptor of its timer. */
 static struct {
     int fd;
     uint32_t number;
@@ -34,7 +34,7 @@ static struct timer *timer_of_number(uint32_t number) {
     return number && timer->number == number ? timer : NULL;
 }
 
-/* Returns the number of a descriptor's timer, or 0 if it has none. */
+/* Returns the number of a descriptor's timer, or 0 if the descriptor has no timer. */
 static uint32_t number_of(int fd) {
     struct itimerspec value;
     bool is_one = !RAW(SYS_timerfd_gettime, fd, &value) && value.it_interval.tv_sec == OURS;
@@ -75,7 +75,7 @@ static bool has_number(int fd, uint32_t number) {
     return number_of(fd) == number;
 }
 
-/* Whether this process still has a descriptor of the timer at this index. */
+/* Returns whether this process still has a descriptor of the timer at this index. */
 static bool is_there(int i) {
     if (number_of(known[i].fd) != known[i].number) {
         known[i].fd = find_descriptor(has_number, known[i].number);
@@ -147,7 +147,7 @@ void timers_closed(int fd) {
     }
 }
 
-/* Registers a descriptor that came from another process, if it is of a timer. */
+/* Registers a descriptor from another process, if it belongs to a timer. */
 static bool adopt(int fd, uint32_t nothing) {
     (void)nothing;
     struct timer *timer = timer_of_number(number_of(fd));

@@ -42,8 +42,8 @@ static struct alarm *alarm_of(uint32_t id) {
     return NULL;
 }
 
-/* Creates an alarm. `number` is 0 if the coordinator has to send no signal. Returns NULL if there is no free alarm, or
- * if the coordinator refuses it. */
+/* Creates an alarm. `number` is 0 if the coordinator does not have to send a signal. Returns NULL if there is no free
+ * alarm, or if the coordinator refuses the alarm. */
 static struct alarm *new_alarm(uint32_t id, int number, uint32_t tid) {
     for (uint32_t i = 0; i < ALARMS; i++) {
         struct alarm *alarm = &run->alarms[i];
@@ -115,7 +115,7 @@ EXPORT useconds_t ualarm(useconds_t n, useconds_t period) {
 
 /* ---- timer_create ---- */
 
-/* A timer with SIGEV_THREAD. A thread sleeps until the timer is due, and calls the function. */
+/* A timer with SIGEV_THREAD. A thread sleeps until the timer is due, and then calls the function. */
 struct caller {
     struct alarm *alarm;
     uint32_t id;

@@ -15,14 +15,14 @@
 #include <termios.h>
 #include <unistd.h>
 
-/* How many bytes a pipe takes without waiting if it is ready. */
+/* How many bytes a ready pipe accepts without waiting. */
 #define PIECE 4096
 /* The maximum number of buffers of a message that is received or sent in pieces. */
 #define PARTS 64
 
 /* ---- messages ---- */
 
-/* The rest of a message, after the bytes that are already transferred. */
+/* The rest of a message, after the bytes that have already been transferred. */
 struct rest {
     struct msghdr message;
     struct iovec parts[PARTS];
@@ -202,12 +202,12 @@ EXPORT int accept(int fd, struct sockaddr *restrict from, socklen_t *restrict ro
 
 #define TENTH (SECOND / 10)
 
-/* Whether a terminal that delivers single bytes (not lines) has a timeout, VTIME. */
+/* Returns whether a terminal that delivers single bytes (not lines) has a timeout, VTIME. */
 static bool has_timeout(int fd, struct termios *settings) {
     return !RAW(SYS_ioctl, fd, TCGETS, settings) && !(settings->c_lflag & ICANON) && settings->c_cc[VTIME];
 }
 
-/* Reads a terminal with a timeout. VTIME limits the wait for the first byte if VMIN is 0, and otherwise the wait
+/* Reads from a terminal with a timeout. If VMIN is 0, VTIME limits the wait for the first byte, and otherwise the wait
  * between two bytes. */
 static ssize_t read_terminal(int fd, char *data, size_t length, const struct termios *settings) {
     uint64_t most = settings->c_cc[VTIME] * TENTH, deadline = settings->c_cc[VMIN] ? NEVER : after(most);
@@ -273,7 +273,7 @@ EXPORT int eventfd_read(int fd, eventfd_t *value) {
     return read(fd, value, sizeof *value) == sizeof *value ? 0 : -1;
 }
 
-/* The fortified forms of these functions, which know the size of the buffer. */
+/* The fortified forms of these functions, which also receive the size of the buffer. */
 extern void __chk_fail(void) __attribute__((noreturn));
 EXPORT ssize_t __read_chk(int fd, void *data, size_t length, size_t room);
 ssize_t __read_chk(int fd, void *data, size_t length, size_t room) {
@@ -294,7 +294,7 @@ ssize_t __recvfrom_chk(int fd, void *data, size_t length, size_t room, int flags
 
 /* ---- writing ---- */
 
-/* Writes data in pieces if there is more than a pipe takes at once. A single call would make the kernel wait for the
+/* Writes data in pieces if there is more than a pipe accepts at once. A single call would make the kernel wait for the
  * reader. */
 static ssize_t write_pieces(int fd, const char *data, size_t length) {
     size_t done = 0;
@@ -309,8 +309,8 @@ static ssize_t write_pieces(int fd, const char *data, size_t length) {
     return (ssize_t)done;
 }
 
-/* Returns the mode of a file if a write to it may wait: the file blocks, and it has no room or gets more than a pipe
- * takes. Otherwise returns 0. */
+/* Returns the mode of a file if a write to it may wait. This is so if the file blocks, and has no room or gets more
+ * than a pipe accepts. Otherwise returns 0. */
 static mode_t mode_of_blocking(int fd, size_t length) {
     struct pollfd polled = {fd, POLLOUT, 0};
     struct stat status;

@@ -7,7 +7,7 @@
 
 #define TREE_MOST 4096
 
-/* Lists the descendants of a process, and returns their number. */
+/* Lists the descendants of a process, and returns how many it listed. */
 size_t tree_below(uint32_t pid, uint32_t *pids, size_t most);
 
 /* Kills all descendants, including those that start in the meantime, and waits until they have ended. */

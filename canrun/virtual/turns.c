@@ -16,15 +16,15 @@ __thread struct my my;
 void (*handle_deferred)(void);
 void (*hold_cancel)(bool is_held);
 
-/* How many real seconds a thread sleeps before it checks that the coordinator still runs. */
+/* How many real seconds a thread sleeps before it checks that the coordinator is still running. */
 #define LIVE_SECONDS 1
 #define BIRTH_NANOSECONDS 20000000
-/* How many events are taken at once, and how often. Their product is more than the slots and descriptors that can be
+/* How many events are read at once, and how often. The product exceeds the number of slots and descriptors that can be
  * ready. */
 #define EVENTS 32
 #define MOST_LOOKS 2000
-/* How often a thread's end is checked without a pause; the pause between later checks, in nanoseconds; and the maximum
- * number of checks, which take about a minute. */
+/* How many times a thread's end is checked without a pause; the pause between later checks, in nanoseconds; and the
+ * maximum number of checks, which take about a minute. */
 #define END_YIELDS 20
 #define END_PAUSE 100000
 #define END_LOOKS 600000
@@ -64,8 +64,8 @@ void begin_test(const char *name) {
         next->number = run->born + 1;
         next->waits = next->reads = 0;
     }
-    /* Threads that the previous test has left, such as sessions that are about to end, do not influence the numbers of
-     * new threads. */
+    /* Threads that the previous test has left behind, such as sessions that are about to end, do not influence the
+     * numbers of new threads. */
     run->born = SLOTS;
 }
 
@@ -141,8 +141,8 @@ struct slot *my_slot(void) {
 static void collect_events(void) {
     struct epoll_event events[EVENTS];
     long count = EVENTS;
-    /* The epoll reports each descriptor of a waiting thread once. Other descriptors, which a program has added, may be
-     * ready for ever. */
+    /* The epoll reports each descriptor of a waiting thread once. Other descriptors, which a program has added, may
+     * remain ready indefinitely. */
     for (int i = 0; count == EVENTS && i < MOST_LOOKS; i++) {
         count = RAW(SYS_epoll_pwait, run_epoll, events, EVENTS, 0, NULL, 8);
         if (count == -EBADF && register_process()) {
@@ -175,7 +175,7 @@ static bool goes_before(const struct slot *one, const struct slot *other) {
                                           : one->number < other->number;
 }
 
-/* Gives a ticket to each thread that has become able to run, and finds the thread that goes first. */
+/* Assigns a ticket to each thread that has become able to run, and finds the thread that goes first. */
 static struct look look_round(void) {
     struct look look = {.best = NOBODY, .next = NEVER};
     uint64_t now = run->now, round = 0;
@@ -199,8 +199,8 @@ static struct look look_round(void) {
     return look;
 }
 
-/* Some waits can be ended by no thread of the run. Makes the threads in such waits poll once more if another thread has
- * run since they last polled. Returns false if there are none. */
+/* Some waits cannot be ended by any thread of the run. This function makes the threads in such waits poll once more if
+ * another thread has run since they last polled. Returns false if there are none. */
 static bool try_again(void) {
     bool has_one = false;
     for (uint32_t i = 0; run->tries && i < slots_used(); i++) {
@@ -257,7 +257,7 @@ uint32_t next_turn(bool ignores_outside) {
         run->pause = PAUSE_BIRTH;
         return NOBODY;
     }
-    /* A thread of a server that only read memory in its turn has made no descriptor ready. */
+    /* If a thread of a server has only read memory in its turn, it has made no descriptor ready. */
     bool is_quiet = is_server && !my.has_acted;
     if (!is_quiet) {
         collect_events();
@@ -346,8 +346,8 @@ static void await_end(void) {
 
 void await_turn(void) {
     struct timespec second = {LIVE_SECONDS, 0};
-    /* In a server only the first thread checks whether the coordinator still runs, and no thread has a signal handler.
-     */
+    /* In a server only the first thread checks whether the coordinator is still running, and no thread has a signal
+     * handler. */
     struct timespec *patience = is_server && my.slot->tid != my.slot->pid ? NULL : &second;
     for (;;) {
         uint32_t seen = my.slot->go;
@@ -360,7 +360,7 @@ void await_turn(void) {
         if (result == -ETIMEDOUT) {
             check_coordinator();
         } else if (result == -EINTR && !has_turn()) {
-            my.slot->flags |= IS_INTERRUPTED; /* A signal of the C library itself, as for pthread_cancel. */
+            my.slot->flags |= IS_INTERRUPTED; /* A signal of the C library itself, such as that of pthread_cancel. */
             ring();
         }
     }
@@ -380,7 +380,7 @@ static void await_and_run(void) {
     }
 }
 
-/* Gives the turn away and waits for the next one. The slot describes the wait. */
+/* Gives the turn to another thread and waits for its next turn. The slot describes the wait. */
 static void give_turn(void) {
     run->progress += my.tries != TRIES_ON;
     my.is_deciding++;
@@ -458,7 +458,7 @@ uint64_t key_of(const volatile void *at, uint64_t salt) {
     return mixed((uint64_t)(uintptr_t)at + salt, my_slot()->pid);
 }
 
-/* The key is the same in each process that maps the file. */
+/* The key is the same in every process that maps the file. */
 uint64_t key_of_file(uint64_t device, uint64_t inode, uint64_t offset) {
     return mixed(mixed(device, inode), offset);
 }
