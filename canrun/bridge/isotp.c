@@ -43,12 +43,7 @@ unsigned isotp_address_size(void) {
 }
 
 unsigned isotp_padded(unsigned length) {
-    static const uint8_t lengths[] = {8, 12, 16, 20, 24, 32, 48, 64};
-    unsigned at = 0;
-    while (lengths[at] < length && at < sizeof lengths - 1) {
-        at++;
-    }
-    return lengths[at];
+    return length < CAN_MAX_DLEN ? CAN_MAX_DLEN : fd_length(length);
 }
 
 uint32_t isotp_broadcast(void) {

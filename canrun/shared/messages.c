@@ -6,16 +6,13 @@
 #include <sys/param.h>
 
 static const char DIGITS[] = "0123456789ABCDEF";
-/* The lengths above 8 that an FD frame may have (ISO 11898-1). */
-static const uint8_t FD_LENGTHS[] = {12, 16, 20, 24, 32, 48, 64};
+/* words: lengths of FD frames in C */
+static const uint8_t FD_LENGTHS[] = {0, 1, 2, 3, 4, 5, 6, 7, 8, 12, 16, 20, 24, 32, 48, 64};
+/* end of words */
 
-/* Returns the shortest valid length of an FD frame that can hold this many bytes. */
-static unsigned fd_length(unsigned length) {
+unsigned fd_length(unsigned length) {
     unsigned at = 0;
-    if (length <= CAN_MAX_DLEN) {
-        return length;
-    }
-    while (FD_LENGTHS[at] < length) {
+    while (FD_LENGTHS[at] < length && at < sizeof FD_LENGTHS - 1) {
         at++;
     }
     return FD_LENGTHS[at];

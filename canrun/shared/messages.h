@@ -30,6 +30,9 @@ void message_of_frame(char text[COMMAND], const struct canfd_frame *frame, bool 
  */
 bool message_to_item(const char *text, struct item *item);
 
+/* Returns the shortest valid length of an FD frame that holds this many bytes, 64 if none does. */
+unsigned fd_length(unsigned length);
+
 /* Reads a decimal number and moves `at` past the digits. Returns false if there are no digits. */
 bool message_number(const char **at, uint64_t *number);
 

@@ -25,6 +25,19 @@ MOST_RULES = 64
 LONGEST_MESSAGE = 1024
 #: bytes of the input of a bench
 MOST_INPUT = 16777216
+#: The lengths of a data frame, as numbers and as a text.
+DATA_LENGTHS = (0, 1, 2, 3, 4, 5, 6, 7, 8)
+DATA_BYTES = "0 to 8"
+#: The lengths of a remote frame, as numbers and as a text.
+REMOTE_LENGTHS = (0, 1, 2, 3, 4, 5, 6, 7, 8)
+REMOTE_BYTES = "0 to 8"
+#: The lengths of an FD frame, as numbers and as a text.
+FD_LENGTHS = (0, 1, 2, 3, 4, 5, 6, 7, 8, 12, 16, 20, 24, 32, 48, 64)
+FD_BYTES = "0 to 8, 12, 16, 20, 24, 32, 48 or 64"
+#: A flag of an FD frame.
+BRS = 1
+#: A flag of an FD frame.
+ESI = 2
 #: The verdicts of a script and of rules.
 GOOD = "good"
 LASTBIT = "lastbit"

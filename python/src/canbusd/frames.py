@@ -8,6 +8,7 @@ from typing import TYPE_CHECKING, Optional, Protocol, TypeVar, Union
 
 from canbusd._calls import NamesWhatThereIs
 from canbusd._text import shown
+from canbusd._words import BRS, DATA_BYTES, DATA_LENGTHS, ESI, FD_BYTES, FD_LENGTHS, REMOTE_BYTES, REMOTE_LENGTHS
 
 if TYPE_CHECKING:
     from can.message import Message
@@ -29,10 +30,6 @@ PLACES = {
     0x1A: "end of frame",
     0x1B: "ACK delimiter",
 }
-# The flags of an FD frame, as in linux/can.h.
-BRS, ESI = 0x1, 0x2
-# The possible data lengths of an FD frame in bytes.
-FD_LENGTHS = (*range(9), 12, 16, 20, 24, 32, 48, 64)
 # Matches an error message frame as it is written in a record.
 ERROR_FRAME = "[23][0-9A-F]{7}#[0-9A-F]{16}"
 
@@ -275,11 +272,10 @@ def check_frame(message: MessageLike) -> None:
         raise BadFrame("bitrate_switch and error_state_indicator are flags of FD frames")
     length = len(message.data)
     if message.is_remote_frame:
-        if length or message.is_fd or not 0 <= message.dlc <= 8:
-            raise BadFrame("a remote frame has no data, is no FD frame, and has a dlc of 0 to 8")
-    elif length > 8 and not message.is_fd or length not in FD_LENGTHS:
-        lengths = "0 to 8, 12, 16, 20, 24, 32, 48 or 64" if message.is_fd else "0 to 8"
-        raise BadFrame(f"data has {length} bytes, not {lengths}")
+        if length or message.is_fd or message.dlc not in REMOTE_LENGTHS:
+            raise BadFrame(f"a remote frame has no data, is no FD frame, and has a dlc of {REMOTE_BYTES}")
+    elif length not in (FD_LENGTHS if message.is_fd else DATA_LENGTHS):
+        raise BadFrame(f"data has {length} bytes, not {FD_BYTES if message.is_fd else DATA_BYTES}")
     elif message.dlc != length:
         raise BadFrame(f"dlc {message.dlc} is not the length of data, which has {length} bytes")
 

@@ -35,6 +35,7 @@ from canbusd.frames import (
     Frame,
     data_bytes,
     flag_number,
+    flags_of,
     frame_to_send,
     identifier_word,
     with_fields,
@@ -73,8 +74,7 @@ class HeadsOfFrames(dict[bytes, tuple[dict[str, object], int]]):
             "dlc": length,
             "timestamp": 0.0,
             "is_rx": True,
-            "bitrate_switch": bool(flags & 1),
-            "error_state_indicator": bool(flags & 2),
+            **flags_of(flags),
         }
         if len(self) >= MOST_HEADS:
             self.clear()

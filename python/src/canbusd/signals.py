@@ -19,7 +19,8 @@ from canbusd._database.dbc_lines import LineFault, check_numbers, is_dbc, refuse
 from canbusd._database.formats import DatabaseError as DatabaseError
 from canbusd._database.formats import MessageFormat, Signal, Value as Value
 from canbusd._text import times
-from canbusd.frames import FD_LENGTHS, BadFrame, Frame, MessageLike
+from canbusd._words import FD_LENGTHS
+from canbusd.frames import BadFrame, Frame, MessageLike
 
 HOW_TO_GET = "pip install cantools, or apt-get install python3-canmatrix"
 #: A function of a library that reads a file and yields its messages.

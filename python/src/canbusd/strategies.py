@@ -15,8 +15,9 @@ from typing import Optional, Union
 from hypothesis import strategies as st
 from hypothesis.strategies import SearchStrategy
 
+from canbusd._words import DATA_LENGTHS, FD_LENGTHS, REMOTE_LENGTHS
 from canbusd.faults import Faults
-from canbusd.frames import FD_LENGTHS, Frame
+from canbusd.frames import Frame
 from canbusd.rules import Rule
 
 Names = Union[str, Sequence[str]]
@@ -42,7 +43,7 @@ def identifiers(extended: Optional[bool] = None) -> SearchStrategy[tuple[int, bo
 
 def data_frames(extended: Optional[bool] = None) -> SearchStrategy[Frame]:
     """Generates classic CAN data frames."""
-    return st.builds(lambda one, data: Frame(one[0], data, one[1]), identifiers(extended), bytes_of(range(9)))
+    return st.builds(lambda one, data: Frame(one[0], data, one[1]), identifiers(extended), bytes_of(DATA_LENGTHS))
 
 
 def remote_frames(extended: Optional[bool] = None) -> SearchStrategy[Frame]:
@@ -50,7 +51,7 @@ def remote_frames(extended: Optional[bool] = None) -> SearchStrategy[Frame]:
     return st.builds(
         lambda one, dlc: Frame(one[0], b"", one[1], is_remote_frame=True, dlc=dlc),
         identifiers(extended),
-        st.integers(0, 8),
+        st.sampled_from(REMOTE_LENGTHS),
     )
 
 

@@ -13,7 +13,6 @@ from functools import cached_property
 from typing import NamedTuple, Optional, Union
 
 from canbusd._database.dbc_lines import is_dbc, line_of
-from canbusd.frames import FD_LENGTHS
 
 #: The value of a signal: a number, or the name of a number.
 Value = Union[int, float, str]

@@ -11,7 +11,8 @@ from canbusd._database.formats import MessageFormat, SignalFormat
 from canbusd._calls import no_such
 from canbusd._expect.signal_limits import CONDITIONS, check_conditions, limit_words
 from canbusd._text import times
-from canbusd.frames import FD_LENGTHS, Frame, data_bytes
+from canbusd._words import FD_LENGTHS
+from canbusd.frames import Frame, data_bytes
 from canbusd.signals import Database, DatabaseError, Value
 
 #: The arguments that can describe a frame in a step of a sequence.

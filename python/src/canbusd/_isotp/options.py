@@ -3,8 +3,10 @@
 from dataclasses import dataclass
 from typing import Optional, Union
 
+from canbusd._words import FD_LENGTHS
+
 #: The valid values for the maximum length of sent frames, in bytes.
-FRAME_LENGTHS = (8, 12, 16, 20, 24, 32, 48, 64)
+FRAME_LENGTHS = FD_LENGTHS[8:]
 
 
 @dataclass(frozen=True)

@@ -5,7 +5,7 @@ from dataclasses import dataclass, replace
 from typing import Literal, NamedTuple, Optional, get_args
 
 from canbusd._calls import meant
-from canbusd.frames import FD_LENGTHS
+from canbusd._words import FD_LENGTHS
 
 Kind = Literal["lost", "twice", "late", "short", "wrong number", "wait", "overflow"]
 KINDS: tuple[Kind, ...] = get_args(Kind)

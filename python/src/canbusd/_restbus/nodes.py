@@ -7,7 +7,7 @@ from typing import Optional, Union
 
 from canbusd._database.formats import MessageFormat
 from canbusd._restbus.schedule import micros, phases
-from canbusd.frames import FD_LENGTHS
+from canbusd._words import FD_LENGTHS
 from canbusd.signals import Database, load_database
 
 Source = Union[Database, str, "os.PathLike[str]"]
