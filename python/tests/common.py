@@ -1,4 +1,4 @@
-"""Functions and data that the tests of buses and servers share."""
+"""Functions and data that are shared by the tests of buses and servers."""
 
 import subprocess
 from pathlib import Path
@@ -32,7 +32,7 @@ on_each_kind = pytest.fixture(
 
 
 def writes_live():
-    """Returns whether the program can write records during a run."""
+    """Returns whether the program can write a record while it runs."""
     words = [find_program(), "serve", "--help"]
     return b"--record" in subprocess.run(words, stdout=subprocess.PIPE, check=True).stdout
 
@@ -46,6 +46,6 @@ def message(identifier, data=b"", extended=False, **more):
 
 
 def shape(received):
-    """Returns the fields that equal messages share: all but the timestamp."""
+    """Returns all fields of a message except its timestamp, so that messages can be compared."""
     kinds = received.is_extended_id, received.is_remote_frame, received.is_error_frame, received.is_fd
     return received.arbitration_id, bytes(received.data), received.dlc, *kinds
