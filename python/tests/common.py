@@ -11,7 +11,7 @@ from canbusd.bench import Bench
 from canbusd.server import Server
 
 PYTHON = Path(__file__).resolve().parents[1]
-#: The timeout in seconds for any awaited event, long enough for a slow machine.
+#: The timeout in seconds for any awaited event. It is long enough for a slow machine.
 WAIT = 60
 #: A database with two nodes, one of which sends a message every 10 ms.
 DBC = """VERSION ""
@@ -25,7 +25,8 @@ BA_DEF_DEF_ "GenMsgCycleTime" 0;
 BA_ "GenMsgCycleTime" BO_ 256 10;
 """
 
-#: Turns a function into a fixture, so that a test runs once with each kind of bus: a bus class and a bit rate.
+#: Turns a function into a fixture that runs the test once for every kind of bus. The parameter is a bus class and a bit
+#: rate.
 on_each_kind = pytest.fixture(
     params=[(Server, 500_000), (Bench, 500_000), (Bench, None)], ids=["server", "bench", "bench without a bit rate"]
 )

@@ -149,8 +149,9 @@ def test_faults_without_lines(run):
 
 
 RULES = "".join(f"at 50 next 1 from can0 id {number:03X} local crc can1\n" for number in range(0x7FF))
-#: Functions that make blocks of lines for 40 MB of faults, by the number of the block. The rules in them are refused because 64
-#: endless rules exist, or are given and ended at once. The other blocks are comments, and lines of a script.
+#: Functions that create blocks of lines for 40 MB of faults. The argument is the index of the block. In "refused", all
+#: rules are refused, because 64 endless rules exist. In "ended", every rule is ended at once. The other blocks contain
+#: comments or numbered script lines.
 MANY = {
     "refused": lambda number: RULES.replace("at 50 ", f"at {1 + number // 15} "),
     "ended": lambda _: RULES.replace("can1\n", "can1\nat 50 nofaults\n"),

@@ -1,5 +1,5 @@
-"""End-to-end protection: the check values of AUTOSAR's SWS_CRCLibrary, the examples of PRS_E2EProtocol, and the
-detected faults."""
+"""End-to-end protection: the check values in AUTOSAR's SWS_CRCLibrary, the examples in PRS_E2EProtocol, and the faults
+that are detected."""
 
 import pytest
 
@@ -10,7 +10,7 @@ from canbusd.server import Server
 from canbusd.signals import load_database
 from common import WAIT
 
-#: The inputs and CRCs of the examples in SWS_CRCLibrary, for SAE J1850, 2F and CCITT.
+#: The inputs and CRCs from the examples in SWS_CRCLibrary, for SAE J1850, 2F and CCITT.
 CRCS = [
     ("00 00 00 00", 0x59, 0x12, 0x84C0),
     ("F2 01 83", 0x37, 0xC2, 0xD374),
@@ -35,7 +35,7 @@ BA_DEF_DEF_ "GenMsgCycleTime" 10;
 
 @pytest.fixture
 def dbc(tmp_path):
-    """Writes a file with a message that has counters and checksums."""
+    """Writes a DBC file with a message that has counters and checksums."""
     pytest.importorskip("canmatrix")
     (tmp_path / "car.dbc").write_text(DBC)
     return tmp_path / "car.dbc"
@@ -60,7 +60,8 @@ def test_crcs_of_another_program(rng_bytes=bytes(range(256))):
             assert own(data) == other(data)
 
 
-#: The examples of PRS_E2EProtocol: 8 or 16 zero bytes, with the data ID 123 or 1234, or with the data IDs 01 to 10.
+#: The examples from PRS_E2EProtocol: 8 or 16 zero bytes with the data ID 123 or 1234, or with the data IDs 01 to 10.
+#: All IDs are in hexadecimal.
 IDS = range(1, 17)
 EXAMPLES = [
     (e2e.Profile1(0x123), 8, 0, "cc 00 00 00 00 00 00 00"),
@@ -91,7 +92,8 @@ def test_examples(profile, size, counter, wanted):
     assert profile.is_right(data) and profile.counter(data) == counter
 
 
-#: These modes have no example in a standard. The expected bytes follow the words of the standard, with CRCs by another program.
+#: The standards contain no examples for these modes. The expected bytes follow the text of the standard, and another
+#: program computes the CRCs.
 def test_other_modes():
     crcmod = pytest.importorskip("crcmod")
     crc = crcmod.mkCrcFun(0x11D, initCrc=0, rev=False, xorOut=0)

@@ -1,4 +1,4 @@
-"""The package as Python finds it: entry points work without an installation, and the version is the same everywhere."""
+"""The package as Python finds it: entry points work without an installation, and all places state the same version."""
 
 import ast
 import configparser
@@ -54,7 +54,7 @@ def test_the_metadata_of_a_clone_is_that_of_the_wheel():
 
 
 def public_names():
-    """Yields the modules and names that documents, entry points and launchers import."""
+    """Yields the modules and names that are imported by documents, entry points and launchers."""
     texts = [*CLONE.glob("*.md"), *CLONE.glob("docs/*.md"), *CLONE.glob("examples/**/*.py"), *CLONE.glob("tools/*")]
     for path in filter(Path.is_file, texts):
         text = path.read_text(encoding="utf-8")
@@ -65,7 +65,7 @@ def public_names():
     yield from (tuple(f"{place}:".split(":")[:2]) for table in tables for place in table.values())
 
 
-#: Modules that users import. A document may import none of them.
+#: Modules that users may import, even if no document imports them.
 PUBLIC = """
     bench bus candump2bench commands e2e faults frames isotp programs pytest_plugin record replay rest_bus rules server shapes
     signals steps strategies uds virtual
@@ -85,7 +85,8 @@ def test_public_paths_can_be_imported():
         assert not name or hasattr(found, name), f"{module} has no {name}"
 
 
-#: The parts of the package in order, each with its top modules for users. A part imports only itself and earlier parts.
+#: The parts of the package in order, each with its top-level modules for users. A part imports only itself and earlier
+#: parts.
 LAYERS = """
     _text+_words+_python_can+_calls+_whole_file+_placement+_crc+virtual+frames+rules+faults+steps+_reports
     _session

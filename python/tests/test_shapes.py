@@ -45,7 +45,7 @@ def played(dbc, signal, *shape, until=0.1):
             return [database.decode(frame).value(signal) for frame in ecu.receive()]
 
 
-#: The times of the frames, in seconds.
+#: The times at which the frames are sent, in seconds.
 MOMENTS = [0.006 + 0.01 * number for number in range(10)]
 
 

@@ -62,7 +62,8 @@ def test_reports(run, pytester):
     )
 
 
-#: A plugin that notes the calls that canbusd makes of pytest-html and allure-pytest. The names are those of their documentation.
+#: A plugin that records the calls from canbusd to pytest-html and allure-pytest. Function and module names are as in
+#: their documentation.
 STAND_INS = """
 import contextlib, sys, types
 

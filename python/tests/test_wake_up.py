@@ -17,7 +17,7 @@ from canbusd.virtual import is_virtual
 from common import DBC, WAIT, on_each_kind
 from test_downs import PROGRAM
 
-#: The identifiers of network management messages, in AUTOSAR's usual range.
+#: The identifiers of network management messages, in the range that is usual for AUTOSAR.
 NM = range(0x500, 0x540)
 
 
@@ -338,7 +338,7 @@ print([step.kind for step in steps], round(woken * 1e6))
 """
 
 
-#: A test in which another thread uses the session on which the test waits.
+#: A test in which another thread uses the session that the test is waiting on.
 OTHER_THREAD = """
 import threading, time
 from canbusd import Server

@@ -50,7 +50,7 @@ finally:
     for event, *paths in moved:
         print(event, *paths, file=sys.stderr)
 """
-#: The words for each command, and the file that it writes besides standard output, or None.
+#: For each command, its arguments and the file that it writes, or None if it writes only to standard output.
 TRIED = {
     "dump": (["dump", "-T", "50", "can0"], None),
     "send": (["send", "can0", "123#11"], None),
