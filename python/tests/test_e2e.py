@@ -118,7 +118,7 @@ def test_each_bit_counts(profile):
     for bit in range(64):
         wrong = bytearray(right)
         wrong[bit // 8] ^= 1 << bit % 8
-        # The message may have four bits of the data ID, which only the CRC protects.
+        # The message may contain four bits of the data ID, which are protected only by the CRC.
         assert not profile.is_right(bytes(wrong))
 
 
@@ -129,7 +129,7 @@ def test_counters_go_round(profile):
     assert found == ["initial"] + ["ok"] * 599
     sent = e2e.Protection(profile)
     counters = [profile.counter(sent.applied(bytes(8))) for _ in range(profile.modulo + 1)]
-    # Profiles 2 and 22 increment the counter before they send.
+    # Profiles 2 and 22 increment the counter before they send a message.
     first = 1 if isinstance(profile, e2e.Profile2) else 0
     assert counters == [(first + number) % profile.modulo for number in range(profile.modulo + 1)]
 
@@ -142,7 +142,7 @@ def test_what_is_found():
     for fault, count in (("repeated", 2), ("wrong crc", 1), ("some lost", 1)):
         protection.inject(fault, count)
     found += [checker.check(protection.applied(bytes(8))) for _ in range(6)]
-    # The frame with the wrong checksum advanced the sender's counter, so the next frame is out of sequence.
+    # The frame with the wrong checksum incremented the sender's counter, so the next frame is out of sequence.
     assert found == ["initial", "ok", "repeated", "repeated", "wrong crc", "wrong sequence", "ok", "ok"]
     protection.inject("some lost")
     assert checker.check(protection.applied(bytes(8))) == "some lost"
@@ -157,7 +157,7 @@ def test_signals(dbc):
     assert data == bytes([e2e.crc8(bytes.fromhex("57112233445566"))]) + bytes.fromhex("57112233445566")
     assert profile.is_right(data) and profile.counter(data) == 7
     other = e2e.Signals("Alive", crc="Sum", function=sum).of(message).protect(bytes([0xFF] * 8), 0)
-    # The checksum has its high byte first.
+    # The checksum has its most significant byte first.
     assert other == bytes.fromhex("fff0ffffffff") + (0xFF * 5 + 0xF0).to_bytes(2, "big")
     assert e2e.Signals("Alive").of(message).protect(bytes(8), 17).hex() == "0001000000000000"
 

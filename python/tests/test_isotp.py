@@ -255,7 +255,8 @@ def test_the_distance_of_consecutive_frames(car, stmin, seconds):
             assert ecu.recv(timeout=WAIT) == bytes(60)
     moments = [message.timestamp for message in car.log() if message.data[0] >> 4 == 2]
     assert len(moments) == 8
-    # The sender begins its pause after the frame before has been on the bus, so a busy machine never makes the pause shorter.
+    # The sender begins its pause after the previous frame has been on the bus. So a busy machine never makes the pause
+    # shorter.
     assert all(after - before >= seconds - 1e-6 for before, after in zip(moments, moments[1:]))
 
 
@@ -285,14 +286,14 @@ def test_faults_need_python(car, library):
 def test_bus_off_while_a_message_comes(car):
     with car.isotp("ecu", tx=0x7E8, rx=0x7E0, library="canbusd") as ecu:
         with car.isotp("tester", tx=0x7E0, rx=0x7E8, library="canbusd") as tester:
-            # The flow control is destroyed 32 times, so the tester goes bus off.
+            # The flow control frame is destroyed 32 times, so the tester goes bus off.
             car.inject(Faults().next(32, sender="tester").destroyed())
             with pytest.raises(IsoTpError):
                 ecu.send(bytes(100), timeout=WAIT)
             car.expect_state("tester", "off", within=WAIT)
             with pytest.raises(IsoTpError):
                 tester.recv(timeout=WAIT)
-            # A flow control that can't be sent ends only its own transfer, and the next one works.
+            # If a flow control frame can't be sent, only its own transfer fails. The next transfer works.
             with car.bus("tester") as bus:
                 bus.restart()
             ecu.send(VIN, timeout=WAIT)

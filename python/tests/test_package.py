@@ -109,7 +109,7 @@ LAYERS = """
 
 
 def imported(body):
-    """Returns the names of the modules that this code imports when it is imported."""
+    """Returns the names of the modules that are imported when this code is imported."""
     for statement in body:
         if isinstance(statement, ast.Import):
             yield from (alias.name for alias in statement.names)
@@ -121,7 +121,7 @@ def imported(body):
 
 
 def package_imports():
-    """Returns the modules of the package, each with the package's modules that it imports when it is imported."""
+    """Returns every module of the package, together with the package's modules that are imported when it is imported."""
     paths = (SOURCES / "canbusd").rglob("*.py")
     names = {str(path.relative_to(SOURCES).with_suffix("")).replace("/", "."): path for path in paths}
     trees = {name.removesuffix(".__init__"): ast.parse(path.read_bytes()) for name, path in names.items()}
@@ -142,12 +142,12 @@ def test_layers():
         number, room = rooms[name.split(".")[1]]
         for layer, other_room, other in ((*rooms[other.split(".")[1]], other) for other in others):
             assert layer < number or other_room == room, f"{name} imports {other}, which is of a layer above it"
-    # prepare() raises CycleError if modules import one another.
+    # prepare() raises CycleError if there is a cycle of imports.
     graphlib.TopologicalSorter(found).prepare()
 
 
 def modules_after(statement):
-    """Returns the names of the modules that Python has loaded after a statement."""
+    """Returns the names of all modules that are loaded after a statement."""
     asks = f"{statement}; import sys; print(*sys.modules)"
     return set(subprocess.check_output([sys.executable, "-c", asks], env=ENVIRONMENT, text=True).split())
 
@@ -186,7 +186,7 @@ def test_a_clone_without_an_installation(tmp_path, words):
 
 
 def test_an_older_python():
-    """On Python 3.8 the package reports the old version, and does not fail in the middle of a module."""
+    """On Python 3.8 the package reports that this version is too old, instead of failing in the middle of a module."""
     asks = "import sys; sys.version_info = (3, 8, 19, 'final', 0); import canbusd"
     done = subprocess.run([sys.executable, "-c", asks], env=ENVIRONMENT, capture_output=True, text=True, check=False)
     assert done.stderr.endswith("ImportError: canbusd needs Python 3.9 or later, and this is 3.8\n")
