@@ -95,7 +95,7 @@ def test_what_send_takes():
 
 
 def test_lost_arbitration():
-    """The 29-bit identifier 048C0000 begins with the same 11 bits as the identifier 123, and its next bit is recessive."""
+    """The 29-bit identifier 048C0000 begins with the 11 bits of identifier 123. Its next bit is recessive."""
     with Bench("can0,can1,can2") as bench:
         for name, identifier in (("can0", 0x124), ("can1", 0x123), ("can2", 0x48C0000)):
             bench.open(name).send(identifier)
@@ -388,7 +388,7 @@ def test_threads_share_a_bench():
 @of_a_process
 def test_an_interrupted_call_ends_the_dialogue_and_keeps_the_run(monkeypatch):
     def interrupt(*_):
-        """Acts like Ctrl-C during a wait for the bench. A real SIGINT might be ignored, as it is in a background job."""
+        """Acts like Ctrl-C during a wait for the bench. A background job might ignore a real SIGINT."""
         raise KeyboardInterrupt
 
     bench, sender, receiver = pair()

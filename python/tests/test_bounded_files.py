@@ -29,7 +29,7 @@ def limited():
 
 
 def call(*words, **more):
-    """Runs a command, and returns its status and its output."""
+    """Runs a command, and returns its exit status, output and error output."""
     if words[0] == "candump2bench":
         words = ["-c", "from canbusd.candump2bench import main; main()", *words[1:]]
     else:

@@ -1,5 +1,5 @@
-"""The commands dump, send, status, report and replay of canbusd. Each command runs in its own process: a fork, or a
-separate program."""
+"""The commands dump, send, status, report and replay. Each command runs in a separate process, either forked or started
+as a program."""
 
 import contextlib
 import json
@@ -71,7 +71,7 @@ def dumping(server, sender, *words, names=("can1",)):
 
 
 def dumped(child, sender, names=1):
-    """Returns the output of `dump` up to the last frame. The frames that showed that the dump was ready are left out."""
+    """Returns the output of `dump` up to the last frame, without the frames that were sent to await its start."""
     written = b""
     for _ in range(10 * WAIT):
         # The frame is sent repeatedly, because the dump's receive queue may be full.

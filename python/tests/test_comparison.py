@@ -239,7 +239,7 @@ def test_receivers_in_another_order(tmp_path):
 
 
 def test_the_exit_status(tmp_path):
-    """The exit status is 0 even if the runs differ. With --exit-code it is 1 if they differ, even if a page is written."""
+    """The exit status is 0 even if the runs differ. With --exit-code it is then 1, even if a page is written."""
     one, other = runs_of_two_nodes(tmp_path, "can0", "can1")
     words = ["report", "--names", "can0,can1"]
     for form in ([], ["--text"]):
@@ -335,7 +335,7 @@ def test_from_one_difference_to_the_next_and_to_the_other_run(opened, tmp_path):
 
 @pytest.mark.skipif(PROGRAM is None, reason="not installed: chromium")
 def test_bars_of_the_other_run_are_as_long_as_its_attempts(opened, tmp_path):  # noqa: F811
-    """Bars and outages of the other run are as long as its attempts."""
+    """In the other run, bars and outages are drawn as long as that run's attempts took."""
     sent = cyclic("a", "100", 30) + cyclic("b", "200", 30, start=0.003)
     faults = Faults().next(32, sender="b", skip=10).destroyed()
     one = run_at(tmp_path, "one", sent, auto_restart=2)

@@ -248,7 +248,7 @@ def test_what_is_no_ack_is_a_refusal(play, verdict):
 
 
 class Overtaken:
-    """A lock that was held by another thread until just now. That thread has read from the connection."""
+    """A lock that another thread has just released, after that thread has read from the connection."""
 
     def __init__(self, lock, reads):
         self._lock, self._reads = lock, [reads]

@@ -170,7 +170,8 @@ def test_each_frame_is_found_once(server, pair):
 
 
 def test_a_frame_is_seen_though_its_receivers_miss_it():
-    """An error passive receiver that sees an error does not destroy the frame (ISO 11898-1). Only this receiver misses the frame."""
+    """An error passive receiver can't destroy the frame in which it sees an error (ISO 11898-1). Only this receiver
+    misses the frame."""
     with Server("can0,can1,can2") as server, server.bus("can0") as can0, server.bus("can1") as can1:
         server.inject(Faults().next(17, sender="can1").destroyed().next(1, sender="can0").local("crc", ["can1"]))
         can1.send(message(0x700))
@@ -251,7 +252,7 @@ def test_frames_that_were_dropped_are_no_frames_that_did_not_come(monkeypatch):
             server.expect_no_frame(id=1, within=0)
         can0.send(message(2))
         server.expect(id=2, within=WAIT)
-        # Dropped frames with identifier 1 would have been earlier than the frame with identifier 2.
+        # The dropped frames came before the frame with identifier 2, which has been taken.
         server.expect_no_frame(id=1, within=0)
 
 

@@ -17,7 +17,7 @@ from common import WAIT
 
 
 def is_there(library):
-    """Returns whether this library is installed."""
+    """Returns whether this ISO-TP library is installed."""
     if library == "canbusd":
         return True
     if library == "can-isotp":

@@ -57,7 +57,7 @@ LINES = ["1.0 100 01", "1.1 101 ", "1.2 100 02", "1.3 700 ", "1.4 102 ", "1.5 10
         # There are too few frames, or they are in the wrong order.
         ([0x102, 0x100], None, ["102#"], None),
         ([0x103], None, [], None),
-        # A forbidden frame counts only after the first step, and before the last.
+        # A forbidden frame counts only between the first and the last step.
         ([0x100, 0x101], (), ["100#01", "101#"], None),
         ([0x101, 0x100, 0x700], (), ["101#", "100#02", "700#"], None),
         ([0x100, 0x102], (), ["100#01"], "101#"),
@@ -243,7 +243,7 @@ def test_what_can_never_be(car, arguments, text):
 
 
 def test_what_may_be_though_it_is_odd(car):
-    """The following are allowed: a limit outside the signal's range, a value without a name, and a number in a string."""
+    """A limit outside the signal's range, a value without a name, and a number in a string are allowed."""
     assert not Wanted(signal="speed", above=99999, database=car).matches(Frame.parse(DRIVES))
     assert Wanted(signal="gear", equals=6, database=car).matches(Frame.parse("123#0000000600000000"))
     assert Wanted(signal="speed", equals="120.50", database=car).matches(Frame.parse(DRIVES))

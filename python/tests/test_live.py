@@ -34,7 +34,7 @@ def test_lines_are_taken_once(tmp_path):
     append(path, "\nfive\n")
     assert next(file.lines()) == "four"
     assert list(file.lines()) == ["four", "five"]
-    # On a full disk, the writer cuts off a partial line.
+    # When the disk is full, the writer removes an incomplete line.
     append(path, "to")
     assert list(file.lines()) == []
     os.truncate(path, path.stat().st_size - 2)

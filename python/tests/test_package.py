@@ -21,7 +21,7 @@ tomllib = pytest.importorskip("tomllib")
 CLONE = Path(__file__).resolve().parents[2]
 SOURCES = CLONE / "python" / "src"
 (INFO,) = SOURCES.glob("canbusd-*.dist-info")
-# Only PYTHONPATH is set, as in README.
+# Only PYTHONPATH is set, as README describes.
 ENVIRONMENT = {**os.environ, "PYTHONPATH": str(SOURCES), "PYTHONDONTWRITEBYTECODE": "1"}
 TEST = """
 import can, pytest
@@ -121,7 +121,7 @@ def imported(body):
 
 
 def package_imports():
-    """Returns every module of the package, together with the package's modules that are imported when it is imported."""
+    """Returns the modules of the package. Each is mapped to the package's modules that it imports."""
     paths = (SOURCES / "canbusd").rglob("*.py")
     names = {str(path.relative_to(SOURCES).with_suffix("")).replace("/", "."): path for path in paths}
     trees = {name.removesuffix(".__init__"): ast.parse(path.read_bytes()) for name, path in names.items()}

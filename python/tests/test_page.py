@@ -269,7 +269,7 @@ def test_sixteen_nodes_of_which_one_sends(opened):
 
 
 def long_names():
-    """Sixteen nodes with names of 15 characters. Each node sends a frame of 64 bytes, and the first node goes bus off."""
+    """Sixteen nodes with names of 15 characters. Each sends a frame of 64 bytes, and the first goes bus off."""
     names, entries = [f"powertrain_can{number:X}" for number in range(16)], []
     for number in range(16):
         entries += [f"open {number} 256 = socket {number}", f"option {number} fd 1 = ok"]

@@ -235,8 +235,8 @@ def between(each, whole, *spans):
 def test_a_queue_is_grey_while_a_frame_waits(half):
     """A queue is grey from the start of the first attempt of its frame until the end of the attempt that sends it.
 
-    Attempts of 108 microseconds begin every 216. a, b and c queue a frame at the start, a the next one after the third attempt, b
-    and c after the fourth, and a after the fifth.
+    Attempts of 108 microseconds begin every 216 microseconds. At the start, a, b and c each queue a frame. a queues its
+    next frame after the third attempt, b and c after the fourth, and a again after the fifth.
     """
     half.run("for (const lane of lanes) lane.isFolded = false; buildGutter(); redraw()")
     half.settle()

@@ -227,7 +227,7 @@ def children():
 
 
 def test_nothing_is_left_of_one_that_has_ended(server):
-    """A program that has ended leaves no process behind, so no later signal can reach another process with the same id."""
+    """A program that has ended leaves no process, so no later signal reaches another process with its id."""
     before = children()
     for ended in (
         lambda one: one.wait(WAIT),

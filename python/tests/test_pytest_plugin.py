@@ -40,7 +40,7 @@ def run(pytester, monkeypatch):
     def run(text, *words):
         body = "\n".join(line[4:] for line in text.split("\n"))
         pytester.makepyfile("import can, canbusd, pytest\n" + body)
-        # If the package is installed, pytest loads the plugin automatically.
+        # -p loads the plugin even if the package is not installed.
         words = (
             "-p",
             "canbusd.pytest_plugin",

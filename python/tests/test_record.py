@@ -330,7 +330,7 @@ def test_events_that_are_read_in_parts(monkeypatch, size):
 
 
 def test_why_a_record_is_refused():
-    """The reason consists of the program's error message on one line."""
+    """The reason is the program's error message, on one line."""
     for text, words in (
         (
             EXAMPLE.replace("123#01FF done", "123#01FF lastbit"),
@@ -346,7 +346,7 @@ def test_why_a_record_is_refused():
 
 
 def test_a_program_that_is_another(monkeypatch, tmp_path):
-    """None of these programs fits the package: one is too old, one is killed, and one writes another version of events."""
+    """None of these programs fits: one is too old, one is killed, and one writes another version of events."""
     program = tmp_path / "canbusd"
     monkeypatch.setenv("CANBUSD", str(program))
     for script, words in (

@@ -484,7 +484,7 @@ def test_a_forked_process_keeps_no_server_from_its_end(tmp_path):
         child.join(WAIT)
 
 
-# The code that a forked process runs, by a description of what it does.
+# The code that a forked process runs. The keys describe what the process does.
 FORKED = {
     "it exits": "sys.exit()",
     "it raises": "raise KeyError",

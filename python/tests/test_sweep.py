@@ -310,7 +310,7 @@ def test_quick(sweep, pytester):
     )
     differs = many.replace(">= 9", "== 9")
     sweep(differs, "--canbusd-sweep", "--canbusd-sweep-quick").stdout.fnmatch_lines(
-        # Any duplicate frame makes the count wrong, so the results of the four frames are the same.
+        # Any duplicate frame makes the count wrong, so all four sampled frames have the same result.
         ["*: 9 attempts, 18 placements, 8 run, 4 failed"]
     )
     last = many.replace(">= 9", "== 9 or canbusd_bench.record().attempts[-2].outcome == 'lastbit'")
@@ -348,7 +348,7 @@ def test_parts_of_a_sweep(sweep, pytester):
             assert not is_shown or place["result"]["outcome"] == "failed"
             del place["result"]["took"], place["result"]["long"]
         assert test["placements"] == other["placements"]
-    # Each page stays in the folder of its part of the sweep.
+    # A page stays in the folder of the part that created it.
     pages = json.loads((pytester.path / "canbusd-sweep" / "sweep.json").read_text())["tests"][0]["placements"]
     assert all((pytester.path / "canbusd-sweep" / place["page"]).exists() for place in pages)
 
@@ -510,7 +510,7 @@ while not sys.argv[2:]:
 
 
 def test_a_command(pytester, monkeypatch):
-    """The command's exit status is the verdict, and the command's programs find the server through their environment."""
+    """The command's exit status is the verdict. Its programs find the server through their environment."""
     monkeypatch.setenv("PYTHONPATH", str(Path(canbusd.__file__).parents[1]), prepend=os.pathsep)
     monkeypatch.setenv("CANBUSD_RUN", find_program("canbusd-run"))
     monkeypatch.setenv("PYTHON", sys.executable)

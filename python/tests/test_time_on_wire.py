@@ -71,7 +71,8 @@ def run_of_three_messages():
     for attempt, (iface, text, micros) in enumerate(FULL):
         number = sum(text == other for _, other, _ in FULL[:attempt])
         entries.append(f"attempt 0.{micros:06} good = tried {iface} {number} {text} done {7 - (1 << iface):04X} 0000")
-        # A is due again at 540 microseconds, after the third attempt has begun. B and C are due at 756, and A at 1080.
+        # Message A is due again at 540 microseconds, after the third attempt has begun. B and C are due at 756
+        # microseconds, and A at 1080.
         send(*{2: [A], 3: [B, C], 4: [A]}.get(attempt, []))
     lines = ["canbus record 1", "bus 3 always 0000 10 100", *entries, f"end {len(entries)}", ""]
     return parse_record("\n".join(lines).encode()).replay

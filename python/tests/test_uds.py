@@ -69,7 +69,7 @@ def test_sessions(ecu, tester):
 def test_sessions_by_their_names(ecu, tester):
     ecu.routine(0x0203, sessions="extended")(lambda data: b"\x00")
     ecu.routine(0x0204, sessions=["programming", 3])(lambda data: b"\x01")
-    # The numbers are those of ISO 14229-1.
+    # The session numbers are those of ISO 14229-1.
     for name, number, allowed in (("default", 1, []), ("programming", 2, [0x0204]), ("extended", 3, [0x0203, 0x0204])):
         tester.session(name)
         assert ecu.session == number

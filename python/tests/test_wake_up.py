@@ -359,7 +359,7 @@ def test_another_thread_brings_an_interface_up_in_virtual_time(tmp_path):
 
 
 def test_virtual_time(tmp_path):
-    """The node is awake at the end of the frame, which has 52 bits and at most 10 stuff bits, each of 2 microseconds."""
+    """The node is awake at the end of the frame. The frame has 52 bits and at most 10 stuff bits of 2 us each."""
     path = tmp_path / "test.py"
     path.write_text(textwrap.dedent(VIRTUAL))
     outputs = {

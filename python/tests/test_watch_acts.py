@@ -226,7 +226,7 @@ class Interface:
 
 
 def test_what_each_act_asks_the_interface_for(monkeypatch):
-    """Every action calls the right method of the bus. The stand-in acts like a server that supports all of these calls."""
+    """Every action calls the right method of the bus. The stand-in for the bus supports all of them."""
     bus = Interface()
     monkeypatch.setattr("canbusd._page.acts.CanbusdBus", lambda *_, **__: bus)
     acts = Acts(["can0"], None)

@@ -200,7 +200,7 @@ def test_pip_installs_the_same_from_the_clone(wheel, environment, tmp_path):
     (package,) = (tmp_path / "venv" / "lib").glob("python3*/site-packages/canbusd")
     with zipfile.ZipFile(wheel) as opened:
         for name in opened.namelist():
-            # A copy without git does not know its commit.
+            # The copied clone has no git repository, so its commit is unknown.
             if name.startswith("canbusd/") and name != "canbusd/COMMIT":
                 assert (package.parent / name).read_bytes() == opened.read(name), name
     tries_the_package(environment, tmp_path)

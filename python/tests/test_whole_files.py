@@ -71,7 +71,7 @@ TRIED = {
 
 
 def convert(folder, *words, **more):
-    """Runs `convert` in this folder, and returns its status and its output."""
+    """Runs `convert` in this folder, and returns its exit status and its output."""
     return call("convert", *words, cwd=folder, **more)
 
 
@@ -124,7 +124,8 @@ def test_nothing_but_its_own_file_is_written(folder, name):
 
 @pytest.fixture(params=["without a name", "with a name", "without /proc"])
 def drafts(request, monkeypatch):
-    """Three ways to write a draft: an unnamed file, as on most file systems; a named file; and without /proc."""
+    """Three ways to write a draft: as an unnamed file, which most file systems support, as a named file, and without
+    /proc."""
     if request.param == "without /proc":
         monkeypatch.setattr("canbusd._whole_file.OWN_FILES", "/nonexistent")
     if request.param == "with a name":
@@ -209,7 +210,7 @@ def test_a_link_that_somebody_makes_meanwhile_is_not_followed(tmp_path, drafts):
 
 
 def test_a_folder_that_is_moved_meanwhile(tmp_path, drafts):
-    """If the folder is moved and replaced by a link, the file is written into the moved folder, not through the link."""
+    """The folder may be moved and replaced by a link meanwhile. The file is then written into the moved folder."""
     for name in ("folder", "other"):
         (tmp_path / name).mkdir()
     (tmp_path / "other" / "file").write_bytes(b"other")
@@ -312,7 +313,7 @@ def as_nobody():
 
 
 def test_what_may_not_be_written_is_refused():
-    """If the user may not write a file, the command refuses to replace it, as a shell would. A folder is refused too."""
+    """If the user may not write to the file or to its folder, replacing the file raises PermissionError."""
     code = """
 import os, sys, tempfile
 from canbusd._whole_file import replaced

@@ -57,7 +57,7 @@ def interfaces_of(path):
 
 
 def test_a_log(tmp_path):
-    """Frames are stored with interface and timestamp. The direction is stored if the log marks frames that were sent."""
+    """Frames have an interface and a timestamp. They have a direction if the log marks frames as sent."""
     log = tmp_path / "run.log"
     log.write_text(
         LOG.replace("123#1122", "123#1122 R").replace("R4", "R4 T") + "(1795910923.100000) late 001##3AABB\n"
