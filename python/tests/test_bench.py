@@ -591,7 +591,7 @@ def test_an_answer_of_another_program(monkeypatch):
     with Bench("can0") as bench:
         session = bench.open("can0")
         others = [("load", "load 0 0"), ("status", "status off"), ("stats", "ok"), ("faults", "stats 1")]
-        # In these answers, some words should be numbers or states but are not.
+        # In these answers, other words replace the numbers or states.
         others += [("faults", "faults x"), ("status", "status off 1 -1"), ("status", "status idle 0 0")]
         for word, answer in others:
             monkeypatch.setattr(session, "call", lambda message: [answer] if message == word else [])

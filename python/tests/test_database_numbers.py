@@ -1,5 +1,5 @@
-"""DBC files with arbitrary numbers. Each file is either read within a second and 100 MB of memory, or refused with the
-number of the line."""
+"""DBC files with arbitrary numbers. Each file is either read within a second, using at most 100 MB of memory, or
+refused with the number of the line."""
 
 import multiprocessing
 import random

@@ -1,4 +1,4 @@
-"""Finds the fault rule for each attempt from the fault file that the run was started with or that it wrote.
+"""The rule that decided each attempt, found from the fault file that was given to the run or written by it.
 test_report.py tests the page."""
 
 import os

@@ -1,4 +1,5 @@
-"""The package as Python finds it: entry points work without an installation, and all places state the same version."""
+"""The package as Python finds it: entry points work without an installation, and the version number is the same
+everywhere."""
 
 import ast
 import configparser

@@ -1,4 +1,4 @@
-"""The page of a run in a browser: keyboard, mouse, texts, colours and widths. The tests are skipped if Chromium is not
+"""The page of a run in a browser: keyboard, mouse, text, colours and widths. The tests are skipped if Chromium is not
 installed."""
 
 import base64

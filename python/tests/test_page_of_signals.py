@@ -59,8 +59,8 @@ def test_at_first_those_that_change_are_shown(shown):
 
 
 def test_the_address_has_the_lanes_and_the_list(shown):
-    """The address contains the signals that are shown and the words of the search. A page that is opened with this
-    address shows the same."""
+    """The address contains the signals that are shown and the search string. A page that is opened with this address
+    shows the same."""
     keys = [shown.run(f"signals.all().find(one => one.name === '{name}').key") for name in ("temperature", "torque")]
     shown.run(
         "showTab('tab-signals'), at('of-signal').value = 'eng', at('of-signal').dispatchEvent(new Event('input'))"

@@ -125,7 +125,7 @@ def test_one_that_ends_by_itself():
         "  one",
         "  two",
     ]
-    # It is enough if the expected line has occurred once.
+    # The error is raised only once, so stop() succeeds now.
     assert server.stop().status == 0
 
 

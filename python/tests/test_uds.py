@@ -170,7 +170,7 @@ def test_pending_responses(car):
             ecu.delay(0x22, 0.6)
             assert (tester.read(0x0100), tester.pending) == (b"\x05", 1)
             assert (tester.read(0x0100), tester.pending) == (b"\x05", 0)
-            # A positive response that is late is sent even if the request suppresses positive responses.
+            # A positive response that is late is sent even if the request suppresses it.
             ecu.delay(0x3E, 0.6)
             assert tester.request(b"\x3e\x80") == b"\x7e\x00"
 

@@ -326,7 +326,7 @@ def test_it_ends_with_the_server():
 
 @pytest.mark.skipif(PROGRAM is None, reason="no chromium on the PATH")
 def test_the_page(tmp_path):
-    # can0 sends frames until it goes bus off.
+    # can0 sends a frame, which is destroyed 32 times, so can0 goes bus off.
     with Server("can0,can1", faults=Faults().destroyed(range(32))) as server, Watch(server, "can0", "can1") as watch:
         browser = Browser(tmp_path)
         try:

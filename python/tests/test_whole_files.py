@@ -21,8 +21,7 @@ from canbusd._whole_file import replaced
 HERE = Path(__file__).parent
 WAIT = 60
 LOG = "".join(f"({1795910922 + number}.000000) ecu 123#{number:04X}\n" for number in range(2000))
-# A program that runs a command, and prints which files the command opens for writing, with the mode, and which it
-# renames or removes.
+# A program that runs a command, and prints which files the command writes in place, renames, truncates or removes.
 TRACED = """
 import os, sys
 
