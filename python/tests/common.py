@@ -13,7 +13,7 @@ from canbusd.server import Server
 PYTHON = Path(__file__).resolve().parents[1]
 #: The timeout in seconds for any awaited event. It is long enough for a slow machine.
 WAIT = 60
-#: A database with two nodes, one of which sends a message every 10 ms.
+#: A DBC file with two nodes, one of which sends a message every 10 ms.
 DBC = """VERSION ""
 BU_: Engine ECU
 BO_ 256 EngineData: 4 Engine

@@ -51,7 +51,7 @@ def sparse(path, head=""):
 
 @pytest.fixture(scope="module")
 def compressed(tmp_path_factory):
-    """A gzip file that contains 100 MB of zero bytes."""
+    """The path of a gzip file that contains 100 MB of zero bytes."""
     path = tmp_path_factory.mktemp("compressed") / "zeros.gz"
     with gzip.open(path, "wb", compresslevel=1) as file:
         for _ in range(100):
@@ -132,7 +132,7 @@ def test_a_log_beside_a_record_without_lines(tmp_path):
 
 @pytest.fixture(scope="module")
 def run(tmp_path_factory):
-    """Returns the record of a run with 100 attempts. A rule destroys the first attempt."""
+    """The path of the record of a run with 100 attempts. A rule destroys the first attempt."""
     out = tmp_path_factory.mktemp("run")
     with Server("can0,can1", out=out, faults=Faults().next(1, id=0x123).destroyed()) as server, server.bus(
         "can0"

@@ -445,7 +445,7 @@ def test_fault_refuses_in_one_line(words, fault):
 
 @pytest.fixture
 def record(tmp_path):
-    """The record of a run in which one frame is destroyed once, and another frame loses arbitration."""
+    """The path of the record of a run in which one frame is destroyed once, and another frame loses arbitration."""
     with Bench("can0,can1", faults=Faults().destroyed(0), out=tmp_path) as bench:
         for name, identifier in (("can0", 0x124), ("can1", 0x123)):
             bench.open(name).send(identifier)

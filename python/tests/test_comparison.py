@@ -20,7 +20,7 @@ from canbusd.record import read_record
 
 
 def run_of(tmp_path, name, faults=None, frames=6, names="can0,can1"):
-    """Returns a run in which the first interface sends frames. The record of the run is read from a file."""
+    """Returns the record of a run in which the first interface sends frames. The record is also in a file."""
     (tmp_path / name).mkdir()
     with Bench(names, faults=faults, out=tmp_path / name) as bench:
         sender = bench.open(bench.names[0])
@@ -183,8 +183,8 @@ def test_the_command(tmp_path):
 
 
 def runs_of_two_nodes(tmp_path, *names):
-    """Returns the records of two runs. The first interface sends a frame in both runs, and the second interface only in
-    the second run.
+    """Returns the paths of the records of two runs. The first interface sends a frame in both runs, and the second
+    interface only in the second run.
     """
     records = []
     for folder, senders in (("a", [0]), ("b", [0, 1])):

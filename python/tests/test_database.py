@@ -62,7 +62,7 @@ def rest(library):
 
 
 def written(folder, text, name="wrong.dbc"):
-    """Writes this text to a file, and returns the database that is loaded from it."""
+    """Writes a database file with these contents, and returns its path."""
     path = folder / name
     path.write_text(text)
     return path
@@ -90,8 +90,8 @@ def test_the_message_of_a_frame(rest):
 
 
 def random_signals(rng):
-    """Returns random signals for a message of 8 bytes. They do not overlap, and each has its line for a DBC file and
-    its raw limits."""
+    """Chooses random signals for a message of 8 bytes that do not overlap. Returns their lines for a DBC file, and
+    their raw limits by name."""
     taken, lines, limits = set(), [], {}
     for number in range(rng.randint(1, 6)):
         size, is_little, is_signed = rng.randint(1, 20), rng.random() < 0.5, rng.random() < 0.5

@@ -35,7 +35,7 @@ BA_DEF_DEF_ "GenMsgCycleTime" 10;
 
 @pytest.fixture
 def dbc(tmp_path):
-    """Writes a DBC file with a message that has counters and checksums."""
+    """The path of a DBC file with a message that has counters and checksums."""
     pytest.importorskip("canmatrix")
     (tmp_path / "car.dbc").write_text(DBC)
     return tmp_path / "car.dbc"

@@ -31,7 +31,7 @@ def run(request):
 
 @pytest.fixture
 def database(tmp_path):
-    """A database with two nodes, one of which sends a message every 10 ms."""
+    """The path of a DBC file with two nodes, one of which sends a message every 10 ms."""
     pytest.importorskip("canmatrix")
     path = tmp_path / "car.dbc"
     path.write_text(DBC)

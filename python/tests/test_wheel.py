@@ -38,8 +38,8 @@ def wheel(request):
 
 @pytest.fixture
 def environment(tmp_path):
-    """A virtual environment in a new folder, without environment variables that name a program. It uses the system's
-    python-can and pip."""
+    """A function that runs Python in a virtual environment in a new folder. No environment variable names a program.
+    The system's python-can and pip are used."""
     done(sys.executable, "-m", "venv", "--system-site-packages", "--without-pip", tmp_path / "venv")
     kept = {name: value for name, value in os.environ.items() if not name.startswith(("CANBUSD", "PYTHON"))}
 
