@@ -47,6 +47,6 @@ def message(identifier, data=b"", extended=False, **more):
 
 
 def shape(received):
-    """Returns all fields of a message except its timestamp, so that messages can be compared."""
+    """Returns the fields in which equal messages agree, which do not include the timestamp."""
     kinds = received.is_extended_id, received.is_remote_frame, received.is_error_frame, received.is_fd
     return received.arbitration_id, bytes(received.data), received.dlc, *kinds

@@ -115,7 +115,8 @@ def used(path):
 
 
 def tried(folder, seeds, results):
-    """Tries files in a separate process. Puts the errors and finally the used memory in MB into `results`."""
+    """Tries files in a separate process. Puts errors into `results`, also if the files use more than 100 MB, and
+    finally None."""
     resource.setrlimit(resource.RLIMIT_AS, (1 << 30, 1 << 30))
     path = folder / "x.dbc"
     # This first call imports the modules, so that their memory is not counted.

@@ -276,7 +276,7 @@ def test_pages_of_a_run_do_not_depend_on_how_it_is_read():
     whole.take(lines)
     for line in lines:
         parts.take([line])
-    # The frame that only waits is not in the table of strings.
+    # The frame 124# only waits, so the table of strings does not contain it.
     texts = ["", "123#", "20000088#0000010000000000"]
     assert whole.texts.all == parts.texts.all == texts and whole.items.errors == parts.items.errors
 

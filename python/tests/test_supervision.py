@@ -1,4 +1,4 @@
-"""Cyclic frames, sequences and changes on a running server. test_judged.py tests the rules that decide about them."""
+"""Cyclic frames, sequences and changes on a running server. test_judged.py tests the rules by which they are judged."""
 
 import re
 import threading
