@@ -8,7 +8,7 @@ import time
 
 PROGRAM = shutil.which("chromium") or shutil.which("chromium-browser") or shutil.which("google-chrome")
 WAIT = 60
-# The key codes and the typed texts, by the names of the keys.
+# The key codes of the keys, and the characters that they type, by key name.
 CODES = {
     "ArrowLeft": 37,
     "ArrowUp": 38,
@@ -21,13 +21,13 @@ CODES = {
     "Escape": 27,
 }
 TEXTS = {"Enter": "\r"}
-# The shell script gives the browser Python's ends of the pipes as file descriptors 3 and 4: it reads commands from 3, and writes
-# replies to 4.
+# The shell script passes Python's ends of the pipes to the browser as file descriptors 3 and 4. The browser reads
+# commands from 3 and writes replies to 4.
 LAUNCH = 'exec "$0" "$@" 3<&{} 4>&{}'
 
 
 class Browser:
-    """A page of a browser."""
+    """A browser with one page open."""
 
     def __init__(self, folder, *words):
         read, self.writer = os.pipe()
@@ -62,7 +62,7 @@ class Browser:
                 return message["result"]
 
     def message(self):
-        """Returns the next message of the browser."""
+        """Returns the browser's next message."""
         while b"\0" not in self.rest:
             data = os.read(self.reader, 1 << 16)
             assert data, "the browser has ended"
@@ -71,7 +71,7 @@ class Browser:
         return json.loads(message)
 
     def size(self, width, height=900, dark=False):
-        """Sets the size of the window, and chooses dark or light colours."""
+        """Sets the window size, and selects dark or light colours."""
         self.ask("Emulation.setDeviceMetricsOverride", width=width, height=height, deviceScaleFactor=1, mobile=False)
         scheme = {"name": "prefers-color-scheme", "value": "dark" if dark else "light"}
         self.ask("Emulation.setEmulatedMedia", features=[scheme])
@@ -90,7 +90,7 @@ class Browser:
             assert time.monotonic() < deadline, condition
 
     def run(self, script):
-        """Returns the value of an expression in the page; the expression may be a promise."""
+        """Returns the value of a JavaScript expression in the page. The expression may be a promise."""
         done = self.ask("Runtime.evaluate", expression=script, returnByValue=True, awaitPromise=True)
         assert "exceptionDetails" not in done, done
         return done["result"].get("value")

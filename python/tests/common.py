@@ -1,4 +1,4 @@
-"""Functions and data that the tests of buses and servers share."""
+"""Functions and data that are shared by the tests of buses and servers."""
 
 import subprocess
 from pathlib import Path
@@ -11,9 +11,9 @@ from canbusd.bench import Bench
 from canbusd.server import Server
 
 PYTHON = Path(__file__).resolve().parents[1]
-#: The timeout in seconds for any awaited event, long enough for a slow machine.
+#: The timeout in seconds for any awaited event. It is long enough for a slow machine.
 WAIT = 60
-#: A database with two nodes, one of which sends a message every 10 ms.
+#: A DBC file with two nodes, one of which sends a message every 10 ms.
 DBC = """VERSION ""
 BU_: Engine ECU
 BO_ 256 EngineData: 4 Engine
@@ -25,14 +25,15 @@ BA_DEF_DEF_ "GenMsgCycleTime" 0;
 BA_ "GenMsgCycleTime" BO_ 256 10;
 """
 
-#: Turns a function into a fixture, so that a test runs once with each kind of bus: a bus class and a bit rate.
+#: Turns a function into a fixture that runs the test once for every kind of bus. The parameter is a bus class and a bit
+#: rate.
 on_each_kind = pytest.fixture(
     params=[(Server, 500_000), (Bench, 500_000), (Bench, None)], ids=["server", "bench", "bench without a bit rate"]
 )
 
 
 def writes_live():
-    """Returns whether the program can write records during a run."""
+    """Returns whether the program can write a record while it runs."""
     words = [find_program(), "serve", "--help"]
     return b"--record" in subprocess.run(words, stdout=subprocess.PIPE, check=True).stdout
 
@@ -46,6 +47,6 @@ def message(identifier, data=b"", extended=False, **more):
 
 
 def shape(received):
-    """Returns the fields that equal messages share: all but the timestamp."""
+    """Returns the fields in which equal messages agree, which do not include the timestamp."""
     kinds = received.is_extended_id, received.is_remote_frame, received.is_error_frame, received.is_fd
     return received.arbitration_id, bytes(received.data), received.dlc, *kinds

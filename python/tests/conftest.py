@@ -16,12 +16,13 @@ from common import PYTHON
 from few_at_a_time import pytest_xdist_make_scheduler  # noqa: F401
 from made_once import made_once
 
-# Programs that the tests start use the package under test, and the program that was built from these sources.
+# Programs that the tests start use the package under test, and the canbusd program that was built from these sources.
 os.environ["PYTHONPATH"] = os.path.dirname(importlib.util.find_spec("canbusd").submodule_search_locations[0])
 
 
 def fitting(kind):
-    """Returns the path of the program or the library that was built from these sources, or the empty text if there is none."""
+    """Returns the path of the program or library that was built from these sources, or an empty string if there is
+    none."""
     words = [PYTHON.parent / "scripts" / kind, "fitting"]
     found = subprocess.run(words, stdout=subprocess.PIPE, text=True, check=False).stdout.strip()
     return str(PYTHON.parent / found) if found else ""
@@ -29,18 +30,18 @@ def fitting(kind):
 
 if "CANBUSD" not in os.environ:
     os.environ["CANBUSD"] = fitting("program") or find_program()
-# If the library has not been built, benches are processes.
+# If the library has not been built, every bench runs as a separate process.
 os.environ.setdefault("CANBUSD_LIBRARY", fitting("library"))
 
 
 def pytest_addoption(pluginmanager):
-    """Registers the plugin's options: if the package is not installed, pytest has not found the plugin by itself."""
+    """Registers the plugin's options. If the package is not installed, pytest does not find the plugin by itself."""
     pluginmanager.import_plugin("canbusd.pytest_plugin")
 
 
 @pytest.fixture(scope="session")
 def browser(tmp_path_factory):
-    """A browser that opens one page after the other."""
+    """A browser that the tests use to open one page after another."""
     browser = Browser(tmp_path_factory.mktemp("browser"))
     yield browser
     browser.close()
@@ -62,7 +63,7 @@ def pair(server):
 
 def install(folder):
     """Installs the package with pip."""
-    # This installs a copy, because setuptools builds in the folder of the sources.
+    # Installs from a copy, because setuptools builds in the source folder.
     source = folder / "clone" / "python"
     shutil.copytree(PYTHON, source, ignore=shutil.ignore_patterns("build", "*.egg-info", "__pycache__", ".*"))
     (source.parent / "scripts").symlink_to(PYTHON.parent / "scripts")
@@ -76,7 +77,7 @@ def install(folder):
 
 @pytest.fixture(scope="session")
 def installed(request):
-    """The environment of a process that uses the package as pip installs it, with its entry points."""
+    """The environment of a process that uses the package as installed by pip, including its entry points."""
     place = made_once(request, "installed", install) / "target"
     given = {"PYTHONPATH": str(place), "CANBUSD_RUN": find_program("canbusd-run")}
     return {**os.environ, **given, "PYTHONWARNINGS": "ignore", "PYTHONUNBUFFERED": "1"}

@@ -9,20 +9,20 @@ import time
 
 PROGRAM = shutil.which("firefox-esr") or shutil.which("firefox")
 WAIT = 60
-# The characters of keys in WebDriver, by the names of the keys.
+# The WebDriver characters of keys, by key name.
 KEYS = {"Tab": "\ue004", "Enter": "\ue007", "Escape": "\ue00c", "ArrowDown": "\ue015", "ArrowRight": "\ue014"}
 SETTINGS = """user_pref("marionette.port", 0);
 user_pref("browser.shell.checkDefaultBrowser", false);
 user_pref("datareporting.policy.dataSubmissionEnabled", false);
 user_pref("app.update.enabled", false);
 """
-# Returns the errors of pages, without warnings.
+# A script that returns the errors of pages, without the warnings.
 FAULTS = """return Services.console.getMessageArray().filter(one => one instanceof Ci.nsIScriptError
   && !(one.flags & (Ci.nsIScriptError.warningFlag | Ci.nsIScriptError.infoFlag)) && one.sourceName.startsWith('file:')).map(one => `${one.sourceName}:${one.lineNumber}: ${one.errorMessage}`)"""
 
 
 class Firefox:
-    """A page of the browser."""
+    """A Firefox with one page open."""
 
     def __init__(self, folder):
         (folder / "user.js").write_text(SETTINGS, encoding="ascii")
@@ -50,7 +50,7 @@ class Firefox:
         return found
 
     def message(self):
-        """Returns the next message of the browser, which is sent as its length, a colon and JSON."""
+        """Returns the browser's next message. On the socket, a message is its length, a colon and JSON."""
         size = b""
         while not size.endswith(b":"):
             one = self.stream.read(1)
@@ -59,22 +59,22 @@ class Firefox:
         return json.loads(self.stream.read(int(size[:-1])))
 
     def run(self, script):
-        """Returns the value of an expression in the page."""
+        """Returns the value of a JavaScript expression in the page."""
         return self.ask("WebDriver:ExecuteScript", script=f"return window.eval({json.dumps(script)})", args=[])["value"]
 
     def in_browser(self, script):
-        """Runs a script in the browser itself, and returns its value."""
+        """Runs a script in the browser itself, not in the page, and returns the script's value."""
         self.ask("Marionette:SetContext", value="chrome")
         found = self.ask("WebDriver:ExecuteScript", script=script, args=[])["value"]
         self.ask("Marionette:SetContext", value="content")
         return found
 
     def faults(self):
-        """Returns the errors of pages so far."""
+        """Returns the errors of all pages so far."""
         return self.in_browser(FAULTS)
 
     def size(self, width, height=900, dark=False):
-        """Sets the size of the page, and chooses dark or light colours."""
+        """Sets the page size, and selects dark or light colours."""
         setting = "layout.css.prefers-color-scheme.content-override"
         self.in_browser(f"Services.prefs.setIntPref('{setting}', {0 if dark else 1})")
         more = [width, height]

@@ -1,4 +1,5 @@
-"""The duration of frames on the wire, by the model of the repository's tests: tests/helpers/wire_model.py and wire_times.py."""
+"""The duration of frames on the wire, computed by the model in tests/helpers/wire_model.py and wire_times.py of the
+repository."""
 
 import sys
 from pathlib import Path
@@ -10,7 +11,8 @@ from wire_times import Rates  # noqa: E402
 
 
 def nanos_of(text, bitrate, dbitrate=None):
-    """Returns two durations in nanoseconds: of a frame, and of its successful attempt, which ends when the next attempt may begin.
+    """Returns two durations in nanoseconds: that of the frame, and that of its successful attempt. The attempt ends
+    when the next one may begin.
     """
     rates, frame = Rates(bitrate, dbitrate), Frame.read(text)
     return rates.frame_nanos(frame), rates.attempt_nanos(frame)

@@ -1,5 +1,5 @@
-"""The bench in a dialogue, as a process and inside this process. The expected results follow from the rules of the bus (Bosch CAN
-2.0, linux/can/error.h)."""
+"""A bench that is used interactively, both as a process and inside this process. The expected results follow from the
+rules for the bus (Bosch CAN 2.0, linux/can/error.h)."""
 
 import os
 import threading
@@ -16,7 +16,7 @@ from canbusd.frames import Frame
 
 @pytest.fixture(autouse=True, params=["process", "inside"])
 def kind(request, monkeypatch):
-    """Runs each test with both kinds of bench."""
+    """Runs every test with both kinds of bench."""
     if request.param == "process":
         monkeypatch.setenv("CANBUSD_LIBRARY", "")
     elif not is_used():
@@ -95,7 +95,7 @@ def test_what_send_takes():
 
 
 def test_lost_arbitration():
-    """The 29-bit identifier 048C0000 begins with the 11 bits of 123, and its next bit is recessive."""
+    """The 29-bit identifier 048C0000 begins with the 11 bits of identifier 123. Its next bit is recessive."""
     with Bench("can0,can1,can2") as bench:
         for name, identifier in (("can0", 0x124), ("can1", 0x123), ("can2", 0x48C0000)):
             bench.open(name).send(identifier)
@@ -156,7 +156,7 @@ def test_an_automatic_restart():
     with bench:
         sender.send(0x123)
         assert bench.run()[-1].off == ("can0",)
-        # run() ended after the first idle attempt, so this attempt is the second of the three.
+        # run() stopped after the first idle attempt, so this is the second of the three attempts until the restart.
         assert bench.attempt() is None
         back = bench.attempt()
         assert (back.outcome, back.winner, back.restarted) == ("idle", "", ("can0",))
@@ -164,12 +164,12 @@ def test_an_automatic_restart():
 
 
 def test_a_fault_that_one_receiver_sees():
-    """After can2 becomes error passive, it can't destroy a frame that it misses."""
+    """Once can2 is error passive, it can no longer destroy a frame in which it sees an error."""
     faults = Faults().local("crc", ["can2"], range(200))
     with Bench("can0,can1,can2", faults=faults, ack="peers") as bench:
         sender, other, victim = (bench.open(name, error_frames=False) for name in bench.names)
         for _ in range(4):
-            # For the sender, each destroyed frame is an error too.
+            # A destroyed frame is an error for the sender too.
             sender.send(0x100)
             attempts = bench.run()
             assert [attempt.outcome for attempt in attempts] == ["destroyed"] * 32
@@ -238,7 +238,7 @@ def test_options_of_a_session():
 
 
 def test_refusals():
-    # The four entries are an open and an option of each session. A refused open is no entry.
+    # The record's four entries are the open and the option of each session. A refused open adds no entry.
     bench, sender, receiver = pair(limit=4)
     with bench:
         with pytest.raises(Refused, match="^no such interface 'can7'; the bench has can0, can1$"):
@@ -388,7 +388,7 @@ def test_threads_share_a_bench():
 @of_a_process
 def test_an_interrupted_call_ends_the_dialogue_and_keeps_the_run(monkeypatch):
     def interrupt(*_):
-        """Acts like Ctrl-C during a wait for the bench. A real SIGINT may be ignored, as in a background job."""
+        """Acts like Ctrl-C during a wait for the bench. A background job might ignore a real SIGINT."""
         raise KeyboardInterrupt
 
     bench, sender, receiver = pair()
@@ -406,7 +406,8 @@ def test_an_interrupted_call_ends_the_dialogue_and_keeps_the_run(monkeypatch):
 
 
 def test_the_end_of_the_input():
-    """The program reads at most 16777216 bytes. A line that does not fit is not written, and the run up to it is kept."""
+    """The program reads at most 16777216 bytes. A line that would exceed this limit is not written, and the run up to
+    that line is kept."""
     bench, sender, _ = pair()
     sender.send(0x123)
     assert bench.attempt().outcome == "done"
@@ -473,7 +474,7 @@ def test_a_forked_process_does_not_keep_a_bench_from_its_end():
     reader, writer = os.pipe()
     child = os.fork()
     if child == 0:
-        # The child lives until the bench has ended.
+        # The child process lives until the bench has ended.
         os.close(writer)
         os.read(reader, 1)
         os._exit(0)
@@ -497,7 +498,7 @@ def test_a_bench_that_says_nothing_is_given_up(monkeypatch, tmp_path):
 
 
 def test_which_bench_it_is(kind, monkeypatch):
-    """A bench uses the library, unless CANBUSD_LIBRARY is empty, or only CANBUSD is set, which names a program."""
+    """A bench uses the library unless CANBUSD_LIBRARY is empty, or only CANBUSD, which names a program, is set."""
 
     def made():
         with Bench("can0") as bench:
@@ -517,7 +518,7 @@ def test_a_bench_that_has_ended():
 
 
 def test_record_audit_and_log(tmp_path):
-    """The replay of the record reports the same as the program did during the run."""
+    """Replaying the record yields the same results as the program reported during the run."""
     runs = []
     for run in ("one", "two"):
         out = tmp_path / run
@@ -536,7 +537,7 @@ def test_record_audit_and_log(tmp_path):
         taken = [item.frame for item in record.items if item.interface == "can1" and item.fate == "taken"]
         assert taken == received
         assert bench.audit() == f"ok {len(record.lines)} entries"
-        # In the log a failed attempt is an error frame, and a frame that arrived twice has two lines.
+        # In the log, a failed attempt is an error frame, and a frame that was received twice has two lines.
         logged = [(one.is_error_frame, 0 if one.is_error_frame else one.arbitration_id) for one in bench.log()]
         assert logged == [
             (attempt.outcome == "destroyed", 0 if attempt.outcome == "destroyed" else int(attempt.frame[:3], 16))
@@ -548,8 +549,8 @@ def test_record_audit_and_log(tmp_path):
 
 
 def test_attempts_take_the_time_of_their_bits():
-    """000# has 50 bits: 34 zeros, 6 stuff bits and 10 bits at its end. 3 bits of intermission follow; without an acknowledgement,
-    19 bits follow the CRC."""
+    """000# has 50 bits: 34 zeros, 6 stuff bits and the last 10 bits. 3 bits of intermission follow. If there is no
+    acknowledgement, 19 bits follow the CRC."""
     bench, sender, receiver = pair(bitrate=500_000)
     with bench:
         for _ in range(3):
@@ -567,8 +568,8 @@ def test_attempts_take_the_time_of_their_bits():
 
 
 def test_a_bit_rate_for_data():
-    """64 zero bytes with identifier 123 take 27 bits at 1 Mbit/s and 651 bits at 10 Mbit/s; without BRS they take 678 bits at 1
-    Mbit/s."""
+    """A frame with 64 zero bytes and identifier 123 has 27 bits at 1 Mbit/s and 651 bits at 10 Mbit/s. Without BRS it
+    has 678 bits at 1 Mbit/s."""
     with Bench("can0", bitrate=1_000_000, dbitrate=10_000_000) as bench:
         session = bench.open("can0", fd=True)
         session.send(0x123, bytes(64), is_fd=True, bitrate_switch=True)
@@ -590,7 +591,7 @@ def test_an_answer_of_another_program(monkeypatch):
     with Bench("can0") as bench:
         session = bench.open("can0")
         others = [("load", "load 0 0"), ("status", "status off"), ("stats", "ok"), ("faults", "stats 1")]
-        # These answers have words that are neither numbers nor states.
+        # In these answers, other words replace the numbers or states.
         others += [("faults", "faults x"), ("status", "status off 1 -1"), ("status", "status idle 0 0")]
         for word, answer in others:
             monkeypatch.setattr(session, "call", lambda message: [answer] if message == word else [])
@@ -618,7 +619,7 @@ def test_a_run_to_a_moment_that_is_refused():
     "rates", [{"bitrate": {"can1": 5_000}}, {"bitrate": {None: 5_000}}, {"bitrate": {"can0": 5_000, None: 500_000}}]
 )
 def test_a_bit_rate_by_an_interface(rates):
-    """123# takes 45 bits of 200 microseconds each."""
+    """The frame 123# has 45 bits of 200 microseconds each."""
     with Bench("can0,can1", **rates) as bench:
         bench.open("can0").send(0x123)
         assert bench.attempt().timestamp == 0.009

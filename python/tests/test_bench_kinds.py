@@ -1,4 +1,5 @@
-"""A bench inside this process and a bench as a process: the same lines give the same output, record and log."""
+"""A bench inside this process and a bench as a separate process: the same lines produce the same output, record and
+log."""
 
 import random
 import re
@@ -22,7 +23,8 @@ MESSAGES = [
 
 
 def lines_of(draw):
-    """Yields random lines: sessions 2 to 9, some of them in raw mode, with messages, timestamps and attempts."""
+    """Yields random input lines. They use the sessions 2 to 9, some of them in raw mode, and contain messages,
+    timestamps and attempts."""
     for number in range(2, 10):
         yield f"session {number}\nfeed {number} < open {'abc'[number % 3]} >" + number % 2 * "< rawmode >"
     for moment in range(400):
@@ -35,7 +37,7 @@ def lines_of(draw):
 
 
 def written_by(bench, lines):
-    """Returns the bench's output after each of these lines."""
+    """Returns the bench's output after each of the lines."""
     written = []
     for line in lines:
         bench._write(f"{line}\nfeed 1 < echo >")
@@ -46,7 +48,7 @@ def written_by(bench, lines):
 
 
 def both(monkeypatch, folder, **options):
-    """Yields a bench of each kind. Each bench has its own folder for its files."""
+    """Yields one bench of each kind. Each bench has its own output folder."""
     for kind in ("BenchInside", "BenchProcess"):
         with monkeypatch.context() as patched:
             if kind == "BenchProcess":
@@ -88,7 +90,7 @@ def test_they_write_the_same(monkeypatch, tmp_path, options):
     ids=lambda line: line[:20],
 )
 def test_they_end_with_the_same_fault(monkeypatch, tmp_path, line):
-    """Both kinds end with the same fault, and leave no files."""
+    """Both kinds of bench end with the same error, and leave no files."""
     faults = []
     for bench in both(monkeypatch, tmp_path, faults=FAULTS):
         bench.open("a").send(0x123)
@@ -124,7 +126,7 @@ def test_they_refuse_the_same(monkeypatch, tmp_path):
 
 @pytest.mark.parametrize("name", ["a.rec", "a.log"])
 def test_a_file_that_cannot_be_written(monkeypatch, tmp_path, name):
-    """The error names this file, and the other file is still written, through a link."""
+    """The error names the file that cannot be written. The other file is still written, through a symbolic link."""
     texts = []
     for bench in both(monkeypatch, tmp_path):
         (bench._out / name).mkdir()

@@ -1,5 +1,5 @@
-"""Files that are neither logs nor records. Their first bytes show this, and a command stops reading there. Some fault files here
-are large."""
+"""Tests of files that are neither logs nor records. The first bytes show this, and a command stops reading after them.
+Some fault files here are large."""
 
 import gzip
 import os
@@ -29,7 +29,7 @@ def limited():
 
 
 def call(*words, **more):
-    """Runs a command, and returns its status and its output."""
+    """Runs a command, and returns its exit status, output and error output."""
     if words[0] == "candump2bench":
         words = ["-c", "from canbusd.candump2bench import main; main()", *words[1:]]
     else:
@@ -42,7 +42,7 @@ def call(*words, **more):
 
 
 def sparse(path, head=""):
-    """Makes a file with this head and 100 MB of zero bytes; returns its path."""
+    """Creates a file with this head and 100 MB of zero bytes, and returns the file's path."""
     with open(path, "w", encoding="ascii") as file:
         file.write(head)
         file.truncate(len(head) + 100_000_000)
@@ -51,7 +51,7 @@ def sparse(path, head=""):
 
 @pytest.fixture(scope="module")
 def compressed(tmp_path_factory):
-    """Compresses 100 MB of zero bytes into a file."""
+    """The path of a gzip file that contains 100 MB of zero bytes."""
     path = tmp_path_factory.mktemp("compressed") / "zeros.gz"
     with gzip.open(path, "wb", compresslevel=1) as file:
         for _ in range(100):
@@ -62,7 +62,8 @@ def compressed(tmp_path_factory):
 @pytest.mark.parametrize("name", ["x.log", "x.asc", "x.csv", "x.trc"])
 @pytest.mark.parametrize("words", [["convert"], ["candump2bench"]], ids=lambda words: words[0])
 def test_a_line_without_end(compressed, tmp_path, words, name):
-    """A command refuses an endless line of zeros in /dev/zero, in a file and in a compressed file, even after valid lines."""
+    """A command refuses an endless line of zeros, whether it is in /dev/zero, a file or a compressed file, and even
+    after valid lines."""
     out = [tmp_path / "out.log"] if words == ["convert"] else []
     path = sparse(tmp_path / name)
     assert call(*words, path, *out) == (1, "", f"{prefix(words)}: {path}:1: {NO_LINE}\n")
@@ -82,7 +83,7 @@ def test_a_line_without_end(compressed, tmp_path, words, name):
 
 
 def prefix(words):
-    """Returns the name that a command has in its messages."""
+    """Returns the name that a command uses for itself in its messages."""
     return "canbusd convert" if words == ["convert"] else words[0]
 
 
@@ -92,8 +93,8 @@ def test_standard_input_without_a_line():
 
 
 def test_a_log_without_end(tmp_path):
-    """The conversion of an endless log stops at the size limit of the bench's input."""
-    # These are the longest frames, so the fewest lines reach the limit.
+    """The conversion of an endless log stops at the maximum size of a bench's input."""
+    # These frames have the maximum length, so that few lines reach the limit.
     with subprocess.Popen(["yes", f"(1795910922.000000) ecu 123##1{128 * '1'}"], stdout=subprocess.PIPE) as endless:
         said = "candump2bench: the input would have more than the 16777216 bytes that canbusd reads: cut the log\n"
         assert call("candump2bench", stdin=endless.stdout) == (1, "", said)
@@ -109,7 +110,7 @@ def test_no_blf_file(tmp_path):
 @pytest.mark.parametrize("command", ["report", "replay"])
 @pytest.mark.parametrize("options", [[], ["--cut"]])
 def test_no_record(tmp_path, command, options):
-    """The error for a large file that is no record has the same words as the error for a short one."""
+    """A large file that is not a record causes the same error message as a short one."""
     for place in (sparse(tmp_path / "x.rec"), "/dev/zero"):
         status, written, said = call(command, *options, place)
         assert (status, written) == (1, "") and said.startswith(f"canbusd {command}: {place}: bad version: `????")
@@ -120,7 +121,7 @@ def test_no_record(tmp_path, command, options):
 
 
 def test_a_log_beside_a_record_without_lines(tmp_path):
-    """A log that belongs to another run gives no names."""
+    """A log that does not belong to this run is not used for interface names."""
     with Bench("can0", out=tmp_path):
         pass
     (tmp_path / "can0.log").unlink()
@@ -131,7 +132,7 @@ def test_a_log_beside_a_record_without_lines(tmp_path):
 
 @pytest.fixture(scope="module")
 def run(tmp_path_factory):
-    """Returns the record of a run of 100 attempts. A rule destroys the first one."""
+    """The path of the record of a run with 100 attempts. A rule destroys the first attempt."""
     out = tmp_path_factory.mktemp("run")
     with Server("can0,can1", out=out, faults=Faults().next(1, id=0x123).destroyed()) as server, server.bus(
         "can0"
@@ -148,8 +149,9 @@ def test_faults_without_lines(run):
 
 
 RULES = "".join(f"at 50 next 1 from can0 id {number:03X} local crc can1\n" for number in range(0x7FF))
-#: Functions that make blocks of lines for 40 MB of faults, by the number of the block. The rules in them are refused because 64
-#: endless rules exist, or are given and ended at once. The other blocks are comments, and lines of a script.
+#: Functions that create blocks of lines for 40 MB of faults. The argument is the index of the block. In "refused", all
+#: rules are refused, because 64 endless rules exist. In "ended", every rule is ended at once. The other blocks contain
+#: comments or numbered script lines.
 MANY = {
     "refused": lambda number: RULES.replace("at 50 ", f"at {1 + number // 15} "),
     "ended": lambda _: RULES.replace("can1\n", "can1\nat 50 nofaults\n"),
@@ -160,7 +162,7 @@ SPLITS = "import sys\nfor line in open(sys.argv[1], 'rb'): line.split()"
 
 
 def processor_seconds(*words):
-    """Returns the processor time in seconds of Python with these words, and its result."""
+    """Runs Python with these arguments. Returns the processor time in seconds and the completed process."""
     before = resource.getrusage(resource.RUSAGE_CHILDREN)
     done = subprocess.run(
         [sys.executable, *words], env=environment(), capture_output=True, text=True, timeout=2 * WAIT, check=True
@@ -171,8 +173,8 @@ def processor_seconds(*words):
 
 @pytest.mark.parametrize("kind", [*MANY])
 def test_forty_megabytes_of_faults(run, tmp_path, kind):
-    """Reading 40 MB of faults takes at most seven times as long as splitting their lines: 3 seconds on an idle processor. One of
-    three tries has to succeed, because the machine's load may vary."""
+    """Reading 40 MB of faults takes at most seven times as long as splitting the lines, which is 3 seconds on an idle
+    processor. One of three tries has to succeed, because the load of the machine may vary."""
     for path in (run, run.with_suffix(".log")):
         os.link(path, tmp_path / path.name)
     first = "next 1 id 123 global bit\n"
@@ -195,7 +197,7 @@ def test_forty_megabytes_of_faults(run, tmp_path, kind):
 
 
 def test_a_record_is_read_from_its_first_byte(run):
-    """A record is read from its first byte, although its beginning has been checked before."""
+    """A record is read from its first byte, even though its beginning has already been checked."""
     assert len(read_record(run).attempts) == 100
     words = [sys.executable, "-m", "canbusd", "replay", "--quiet", "/dev/stdin"]
     done = subprocess.run(

@@ -1,5 +1,5 @@
-"""CanbusdBus on a server: the calls of a python-can user. The classes and bytes of error message frames follow linux/can/error.h,
-and the limits of the error counters follow Bosch's specification."""
+"""CanbusdBus on a server: the calls that a python-can user makes. The classes and bytes of error message frames follow
+linux/can/error.h, and the limits of the error counters follow Bosch's specification."""
 
 import errno
 import os
@@ -18,7 +18,7 @@ from canbusd.server import Server
 
 
 def all_of(bus):
-    """Returns all messages that the bus receives before it is silent."""
+    """Returns all messages that the bus receives until no more arrive."""
     return list(iter(lambda: bus.recv(0.2), None))
 
 
@@ -98,7 +98,7 @@ def test_flags_of_fd_frames_are_kept(server, caplog, brs, esi):
 
 
 def error(class_, data):
-    """Returns an error message frame in the form of `shape`."""
+    """Returns an error message frame in the form that `shape` returns."""
     return class_, bytes.fromhex(data), 8, False, False, True, False
 
 
@@ -108,7 +108,8 @@ def test_error_frames_and_state_to_bus_off_and_back():
             assert can0.state is can.BusState.ACTIVE
             can0.send(message(0x123))
             shapes = [shape(can0.recv(WAIT)) for _ in range(3)]
-            # The transmit error counter reaches 96 and 128 (class CRTL, with the counters). After that the interface is bus off.
+            # The transmit error counter reaches 96 and 128. Each time, the error message frame has class CRTL and the
+            # counters. After that, the interface is bus off.
             assert shapes == [
                 error(0x204, "0008000000006000"), error(0x204, "0020000000008000"), error(0x040, "0000000000000000")
             ]  # fmt: skip
@@ -123,7 +124,7 @@ def test_error_frames_and_state_to_bus_off_and_back():
             assert shape(can0.recv(WAIT)) == error(0x100, "0000000000000000")
             assert can0.state is can.BusState.ACTIVE
             assert can0.error_counters() == ("active", 0, 0)
-            # The frame in the queue was lost at bus off. After the restart the bus works again.
+            # The queued frame was lost at bus off. After the restart, the bus works again.
             can0.send(message(0x124))
             assert can1.recv(WAIT).arbitration_id == 0x124
             assert can0.stats().lost == 1
@@ -138,7 +139,8 @@ def test_error_frames_and_state_to_bus_off_and_back():
     ],
 )
 def test_the_state_is_that_of_the_counts(destroyed, counters, state):
-    # Each destroyed frame adds 8 to the sender's error counter and 1 to the receiver's. The successful frame takes 1 off both.
+    # Every destroyed frame adds 8 to the sender's error counter and 1 to the receiver's. The successful frame subtracts
+    # 1 from both.
     with Server("can0,can1", faults=Faults().destroyed(range(destroyed))) as server:
         with server.bus("can0") as can0, server.bus("can1") as can1:
             can0.send(message(0x123))
@@ -151,7 +153,7 @@ def test_the_state_is_that_of_the_counts(destroyed, counters, state):
 def test_restart_where_nothing_is_off(pair):
     with pytest.raises(can.CanOperationError, match="not bus off"):
         pair[0].restart()
-    # The tools of python-can set this state when they start.
+    # python-can's tools set this state when they start.
     pair[0].state = can.BusState.ACTIVE
     with pytest.raises(NotImplementedError):
         pair[0].state = can.BusState.PASSIVE
@@ -181,14 +183,15 @@ def test_reported_faults():
     with Server("can0,can1", faults=Faults().destroyed(0), report=True) as server:
         with server.bus("can0") as can0, server.bus("can1") as can1:
             can0.send(message(0x123))
-            # The class is PROT and BUSERROR. The sender reports a bit error in the data section, and the receiver a stuff error.
+            # The class is PROT and BUSERROR. The sender reports a bit error in the data field, and the receiver reports
+            # a stuff error.
             assert shape(can0.recv(WAIT)) == error(0x088, "0000810A00000000")
             assert shape(can1.recv(WAIT)) == error(0x088, "0000040000000000")
 
 
 @pytest.fixture
 def full():
-    """A bus with a transmit queue of two frames, which stays full for a minute."""
+    """A bus whose transmit queue holds two frames and stays full for a minute."""
     with Server("can0,can1", txqueue=2, pace_ms=60000) as server:
         with server.bus("can0") as can0, server.bus("can1") as can1:
             can0.send(message(1))
@@ -211,7 +214,7 @@ def test_a_full_transmit_queue(full):
 
 
 def test_a_burst_waits_for_room():
-    # The queue of the receiver has room for all frames, however late it reads them.
+    # The receive queue has room for all frames, however late the receiver reads them.
     with Server("can0,can1", rxqueue=300) as server, server.bus("can0") as can0, server.bus("can1") as can1:
         for number in range(300):
             can0.send(message(number), timeout=WAIT)
@@ -247,7 +250,8 @@ def test_many_messages_while_others_send_by_the_interface(pair, server):
 
 
 FILTERS = [
-    # Each case has filters, and the frames that pass them: a is 11-bit 123, b is 29-bit 123, c is remote 123, d is 11-bit 124.
+    # Each case is a list of filters and the frames that pass: a is 11-bit 123, b is 29-bit 123, c is remote 123, d is
+    # 11-bit 124.
     (None, "abcd"),
     ([{"can_id": 0x123, "can_mask": 0x7FF}], "abc"),
     ([{"can_id": 0x123, "can_mask": 0x1FFFFFFF}], "abc"),
@@ -259,7 +263,7 @@ FILTERS = [
     ([{"can_id": 0x124, "can_mask": 0x7FF}, {"can_id": 0x123, "can_mask": 0x7FF, "extended": True}], "bd"),
     ([{"can_id": 0, "can_mask": 0}], "abcd"),
 ]
-# These filters do not fit into one message of 1,024 bytes, and none matches.
+# These filters do not fit into one message of 1,024 bytes, and match no frame.
 FAR = [{"can_id": 0x700 + number, "can_mask": 0x7FF, "extended": False} for number in range(100)]
 FRAMES = {
     "a": message(0x123),
@@ -289,10 +293,10 @@ def test_filters(pair, server, filters, passing):
     can1.set_filters(wanted)
     assert can1.filters == wanted
     assert until_end(can1, can0) == passing
-    # Filters also work if they are given to the constructor.
+    # Filters also work if they are passed to the constructor.
     with server.bus("can1", can_filters=wanted) as other:
         assert until_end(other, can0) == passing
-    # None as a filter lets every frame pass again.
+    # With None instead of filters, every frame passes again.
     can1.set_filters(None)
     all_of(can1)
     assert until_end(can1, can0) == "abcd"
@@ -318,7 +322,7 @@ def test_frames_from_before_a_filter_are_filtered(pair):
     can0, can1 = pair
     can0.send(message(0x123))
     can0.send(message(0x124))
-    # Both frames are read while the bus waits for the status, or they wait in the connection.
+    # Both frames are either read while the bus waits for the status, or still in the connection.
     while can1.stats().taken < 2:
         pass
     can1.set_filters([{"can_id": 0x124, "can_mask": 0x7FF}])
@@ -335,7 +339,7 @@ def test_error_frames_are_not_filtered():
 
 @pytest.mark.parametrize("count", [1, 100])
 def test_joined_filters(server, count):
-    # A frame must match all filters: its identifier is not 123, and none of the other filters' identifiers.
+    # A frame must match all filters: its identifier is neither 123 nor an identifier in the other filters.
     others = [{**one, "can_id": one["can_id"] | 0x20000000} for one in FAR[: count - 1]]
     filters = [{"can_id": 0x20000123, "can_mask": 0x7FF}, *others]
     with server.bus("can0") as can0, server.bus("can1", can_filters=filters, join_filters=True) as can1:
@@ -354,7 +358,7 @@ def test_a_wrong_filter(pair, server, wrong):
 
 
 def test_whose_a_message_is(server):
-    """`is_rx` is False only for messages that this bus has sent, even if another bus has sent an equal message."""
+    """`is_rx` is False only for messages that this bus has sent, even if another bus has sent an identical message."""
     own, beside, other = server.bus("can0", receive_own_messages=True), server.bus("can0"), server.bus("can1")
     with own, beside, other:
         for sender in (own, beside, other, beside, own, own, other):
@@ -363,7 +367,7 @@ def test_whose_a_message_is(server):
             assert shape(got) == shape(message(7, b"7")) and got.is_rx == (sender is not own)
         own.send(message(8, dlc=2, is_remote_frame=True))
         assert own.recv(WAIT).is_rx is False
-    # A frame that another bus of the same interface sent earlier is not this bus's own.
+    # The bus does not mistake an earlier frame from another bus on the same interface for its own.
     with server.bus("can0", receive_own_messages=True, fd=True) as own, server.bus("can0") as beside:
         beside.send(message(9))
         own.send(message(9, bytes(12), is_fd=True))
@@ -556,7 +560,7 @@ def test_the_file_descriptor_is_readable_while_there_are_frames(pair):
         seen += [got.arbitration_id] if got else []
     assert seen == list(range(5))
     assert not select.select([can1], [], [], 0)[0]
-    # This also holds for frames that the bus has read while it waited for an answer.
+    # The same is true for frames that the bus has read while it waited for an answer.
     can0.send(message(6))
     while can1.stats().taken < 6:
         pass

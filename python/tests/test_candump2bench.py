@@ -1,4 +1,5 @@
-"""tools/candump2bench makes inputs of the bench from logs. tests/record/test_log_readers.py tests it with complete logs."""
+"""tools/candump2bench creates bench input from logs. tests/record/test_log_readers.py tests the tool with complete
+logs."""
 
 import subprocess
 import sys
@@ -41,7 +42,7 @@ def test_another_line_is_not():
 
 
 def test_lines_that_are_alike():
-    """Equal lines, such as bus off at different timestamps, are reported once; each different line is reported."""
+    """Lines that differ only in their timestamps are reported once. All other different lines are reported."""
     failed = [f"(1.{number:06}) ecu 20000080#0000000000000000\n" for number in range(32)]
     others = ["garbage\n", "(2.000000) can1 20000080#0000000000000000\n", "rubbish\n"]
     done = converted("(0.000000) ecu 123#1122\n" + "".join([*failed, *others]))

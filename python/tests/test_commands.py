@@ -1,4 +1,5 @@
-"""canbusd COMMAND: dump, send, status, report and replay. Each runs in a process: a fork, or a separate program."""
+"""The commands dump, send, status, report and replay. Each command runs in a separate process, either forked or started
+as a program."""
 
 import contextlib
 import json
@@ -28,7 +29,7 @@ READY, END = 0x7FF, 0x7FE
 
 
 def environment(server=None):
-    """Returns the environment of a command, which imports the same package as this test."""
+    """Returns the environment variables for a command, which imports the same package as this test."""
     address = {"CANBUSD_ADDRESS": server.address} if server else {}
     places = [str(Path(canbusd.__file__).parents[1]), *filter(None, [os.environ.get("PYTHONPATH")])]
     return {**os.environ, "PYTHONPATH": os.pathsep.join(places), "PYTHONDONTWRITEBYTECODE": "1", "TZ": "UTC", **address}
@@ -39,7 +40,7 @@ def words_of(*words):
 
 
 def call(*words, server=None, **more):
-    """Runs a command to its end, and returns its status, its output and its errors."""
+    """Runs a command to completion, and returns its exit status, its output and its error output."""
     return forked(*words, env=environment(server), **more)
 
 
@@ -49,7 +50,7 @@ def message(identifier, data=b"", **more):
 
 @contextlib.contextmanager
 def dumping(server, sender, *words, names=("can1",)):
-    """A dump of these interfaces. `sender` sends until the dump has written a frame of each interface."""
+    """Runs `dump` for these interfaces. `sender` sends frames until the dump has written a frame for each of them."""
     child = subprocess.Popen(
         words_of("dump", *words), env=environment(server), stdout=subprocess.PIPE, stderr=subprocess.PIPE, bufsize=0
     )
@@ -70,10 +71,10 @@ def dumping(server, sender, *words, names=("can1",)):
 
 
 def dumped(child, sender, names=1):
-    """Returns the output of a dump up to the last frame, without the frames that showed that it was ready."""
+    """Returns the output of `dump` up to the last frame, without the frames that were sent to await its start."""
     written = b""
     for _ in range(10 * WAIT):
-        # The frame is sent again and again, because the dump's queue may have no room for it.
+        # The frame is sent repeatedly, because the dump's receive queue may be full.
         sender.send(message(END), timeout=5)
         while select.select([child.stdout], [], [], 0.1)[0]:
             piece = os.read(child.stdout.fileno(), 65536)
@@ -100,7 +101,7 @@ def dumped(child, sender, names=1):
     ],
 )
 def test_frames_on_the_screen_are_those_of_candump(text, line):
-    """The lines are those of candump in can-utils."""
+    """The printed lines are the same as those of candump from can-utils."""
     import argparse
 
     view = View(argparse.Namespace(log=False, explain=False, timestamps=None), 4)
@@ -108,7 +109,7 @@ def test_frames_on_the_screen_are_those_of_candump(text, line):
 
 
 def test_identifiers_of_11_bits_after_one_of_29():
-    """After a 29-bit identifier, 11-bit identifiers are aligned on the right, like candump's."""
+    """After a 29-bit identifier, 11-bit identifiers are right-aligned, as in candump's output."""
     import argparse
 
     view = View(argparse.Namespace(log=False, explain=False, timestamps=None), 4)
@@ -146,7 +147,7 @@ def test_dump_of_several_interfaces():
                 )  # fmt: skip
             lines = dumped(child, sender, names=2)
     for name in ("can1", "can2"):
-        # Spaces are ignored, because the width of an identifier depends on the order of the frames.
+        # Spaces are ignored, because the width of the identifier column depends on the order of the frames.
         assert [" ".join(line.split()) for line in lines if name in line] == [
             f"{name} 123 [1] 11",
             f"{name} 00000123 [0]",
@@ -212,7 +213,7 @@ def test_dump_that_counts_and_dump_that_waits():
 
 
 def test_dump_says_what_found_no_room():
-    """The receive queue has room for one frame. Each frame of a burst is either written, or counted as dropped."""
+    """The receive queue has room for one frame. Every frame of a burst is either written or counted as dropped."""
     frames = 20000
     with Server("can0,can1", pace_ms=0, txqueue=1024, rxqueue=1) as server, server.bus("can0") as sender:
         with dumping(server, sender, "-L", "can1") as child:
@@ -355,8 +356,8 @@ def test_status_of_a_busy_bus():
     with Server("can0,can1", bitrate=5_000, txqueue=1_000) as server, server.bus("can0") as sender:
 
         def is_full():
-            """Returns whether the status shows a full bus for the last second. Frames always wait in the queue, but a server that
-            is late skips attempts."""
+            """Returns whether the status shows a fully loaded bus for the last second. Frames always wait in the queue,
+            but a server that is late skips attempts."""
             sender.send_many([message(1, bytes(8))] * (1_000 - sender.stats().waiting))
             status, written, said = call("status", server=server)
             assert (status, said) == (0, "")
@@ -444,7 +445,7 @@ def test_fault_refuses_in_one_line(words, fault):
 
 @pytest.fixture
 def record(tmp_path):
-    """The record of a run in which a frame is destroyed once, and another frame loses arbitration."""
+    """The path of the record of a run in which one frame is destroyed once, and another frame loses arbitration."""
     with Bench("can0,can1", faults=Faults().destroyed(0), out=tmp_path) as bench:
         for name, identifier in (("can0", 0x124), ("can1", 0x123)):
             bench.open(name).send(identifier)
@@ -470,7 +471,7 @@ def test_replay_of_a_record(record):
 
 
 def test_a_record_that_is_cut_off(record):
-    """A killed server leaves a record that is cut off. The names of its interfaces are in the log beside it."""
+    """A killed server leaves an incomplete record. The names of its interfaces are in the log next to the record."""
     whole, cut = call("replay", record)[1], record.with_name("can0.rec.new")
     cut.write_bytes(record.read_bytes()[:-4])
     for command in ("replay", "report"):
@@ -490,7 +491,7 @@ def test_report_of_a_record(record):
     drawn = call("report", "--text", record)[1]
     story = "2 nodes, 3 attempts: 1 failed\n"
     assert drawn == story + call("report", "--arbitration", record)[1] + call("report", "--counters", record)[1]
-    # 123 wins, because it has a dominant bit where 124 has a recessive one.
+    # The frame 123 wins, because it has a dominant bit where 124 has a recessive one.
     assert "attempt 1: can1 wins with 123#, done\n  can0 001001001<- loses here\n  can1 00100100011 00\n" in drawn
     assert "can1: transmit count #, receive count o, over 3 steps\n" in drawn
     assert call("report", record.with_name("none"))[::2] == (
@@ -512,7 +513,7 @@ def test_commands_and_their_help():
     assert call("dance")[0] == call("help", "dance")[0] == call()[0] == 2
     status, written, said = call("--version")
     assert (status, said) == (0, "")
-    # An installed package shows its commit.
+    # An installed package prints its commit.
     assert re.fullmatch(rf"canbusd {re.escape(canbusd.__version__)}( \([0-9a-f]{{8}}\+?\))?\n", written)
 
 
@@ -557,7 +558,8 @@ def test_first_words_that_are_wrong(words, said):
     ],
 )
 def test_options_that_are_wrong(words, said):
-    """The status of a wrong option is 2, as for the program itself. No server or file is opened before that."""
+    """The exit status for a wrong option is 2, as for the program itself. The command does not connect to a server or
+    open a file first."""
     status, written, errors = call(*words.split())
     assert (status, written) == (2, "") and errors.endswith(f": {said}\n"), errors
 
@@ -618,7 +620,7 @@ def test_a_replay_in_json(tmp_path):
 
 
 def test_reports_need_no_python_can(record):
-    """Only buses and logs need python-can, and no part of the package needs pytest."""
+    """Only buses and logs require python-can. No part of the package requires pytest."""
     program = (
         "import sys; sys.modules['can'] = sys.modules['pytest'] = None\n"
         "import canbusd\n"

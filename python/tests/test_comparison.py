@@ -1,4 +1,4 @@
-"""The comparison of two runs: their first difference, in words and on a page."""
+"""The comparison of two runs: the first difference, as text and on a page."""
 
 import contextlib
 import random
@@ -20,7 +20,7 @@ from canbusd.record import read_record
 
 
 def run_of(tmp_path, name, faults=None, frames=6, names="can0,can1"):
-    """Returns a run in which the first interface sends frames. The record of the run is in a file."""
+    """Returns the record of a run in which the first interface sends frames. The record is also in a file."""
     (tmp_path / name).mkdir()
     with Bench(names, faults=faults, out=tmp_path / name) as bench:
         sender = bench.open(bench.names[0])
@@ -31,7 +31,7 @@ def run_of(tmp_path, name, faults=None, frames=6, names="can0,can1"):
 
 
 def test_a_frame_that_is_sent_again(tmp_path):
-    """A frame that is sent again is one difference, and the later frames match."""
+    """A frame that is sent again is one difference. The frames after it match."""
     one, other = run_of(tmp_path, "a"), run_of(tmp_path, "b", Faults().destroyed(4))
     words = "can0 104#04: done against destroyed (global bit), then done"
     assert Comparison(one, other).differences == [("other outcome", 4, 4, words)]
@@ -59,7 +59,7 @@ def test_runs_that_are_alike_and_one_that_goes_on(tmp_path):
 
 
 def run_at(tmp_path, name, sent, faults=None, **more):
-    """Returns a run of a bus at 500 kbit/s, in which each frame has a time and an interface."""
+    """Returns a run on a bus at 500 kbit/s, in which each frame is sent at a given time from a given interface."""
     (tmp_path / name).mkdir()
     with Bench("a,b,c", faults=faults, bitrate=500_000, out=tmp_path / name, **more) as bench:
         sessions = {channel: bench.open(channel) for channel in bench.names}
@@ -77,7 +77,7 @@ def cyclic(channel, identifier, count, period=0.01, start=0.0):
 
 
 def test_a_frame_that_is_missing(tmp_path):
-    """Frames after the missing one match, and so do the frames of other senders."""
+    """The frames after the missing one match, and so do the frames from other senders."""
     sent = cyclic("a", "100", 100) + cyclic("b", "200", 100, start=0.003)
     lost = [one for one in sent if one[:2] != (0.5, "a")]
     one, other = run_at(tmp_path, "a", sent), run_at(tmp_path, "b", lost)
@@ -92,8 +92,8 @@ def test_other_data_and_another_outcome(tmp_path):
     ]
     faults = Faults().next(1, id=0x100, skip=7).last_bit().next(1, id=0x100, skip=3).local("crc", ["c"])
     comparison = Comparison(run_at(tmp_path, "a", sent), run_at(tmp_path, "b", changed, faults))
-    # The second rule hits the fourth attempt, and the first rule the eighth, because a frame that is sent again is an additional
-    # attempt.
+    # The second rule applies to the fourth attempt and the first rule to the eighth, because the repetition of a frame
+    # is an additional attempt.
     assert comparison.differences == [
         ("other outcome", 3, 3, "a 100#03: done against destroyed (local crc c), then done"),
         ("other data", 5, 6, "a 100#05 against a 100#FF"),
@@ -102,7 +102,8 @@ def test_other_data_and_another_outcome(tmp_path):
 
 
 def test_frames_that_come_later(tmp_path):
-    """Frames that are late by more than the tolerance are reported. If all later frames are late too, only the first is."""
+    """A frame that is late by more than the tolerance is reported. If all later frames are late too, only the first of
+    them is reported."""
     sent = cyclic("a", "100", 100) + cyclic("b", "200", 100, start=0.003)
     late = [(moment + 0.025 * (channel == "b" and moment > 0.5), channel, text) for moment, channel, text in sent]
     one, other = run_at(tmp_path, "a", sent), run_at(tmp_path, "b", late)
@@ -117,7 +118,7 @@ def test_frames_that_come_later(tmp_path):
 
 
 def test_runs_that_differ_in_order_only(tmp_path):
-    """Two nodes send at about the same time: the command reports only another order, with status 0."""
+    """Two nodes send at about the same time. The command reports only a different order, and its exit status is 0."""
     sent = cyclic("a", "100", 50) + cyclic("b", "200", 50, start=0.0004)
     jittered = cyclic("a", "100", 50) + [
         (moment - 0.0008 * (k % 3 == 2), channel, text)
@@ -131,10 +132,11 @@ def test_runs_that_differ_in_order_only(tmp_path):
 
 
 def test_outages_and_restarts(tmp_path):
-    """A comparison reports that a node goes bus off, and that the number of restarts differs."""
+    """A comparison reports a node that goes bus off, and a different number of restarts."""
     sent = cyclic("a", "100", 30) + cyclic("b", "200", 30, start=0.003)
     faults = Faults().next(32, sender="b", skip=10).destroyed()
-    # The node returns after 600 attempts of 11 bits or more. Its next frame comes before that, and is refused.
+    # The node restarts after 600 attempts of at least 11 bits each. The node's next frame is due earlier, so it is
+    # refused.
     one = run_at(tmp_path, "a", sent, auto_restart=600)
     other = run_at(tmp_path, "b", sent, faults, auto_restart=600)
     assert [(each.kind, each.words) for each in Comparison(one, other).differences] == [
@@ -149,7 +151,7 @@ def test_outages_and_restarts(tmp_path):
 
 @pytest.mark.parametrize("seed", range(20))
 def test_the_longest_part_in_common(seed):
-    """The result is a longest common subsequence, as the definition of that gives it."""
+    """The result is a longest common subsequence. The test computes its length from the definition."""
     source = random.Random(seed)
     for _ in range(50):
         one, other = (["abc"[source.randrange(3)] for _ in range(source.randrange(12))] for _ in range(2))
@@ -181,7 +183,8 @@ def test_the_command(tmp_path):
 
 
 def runs_of_two_nodes(tmp_path, *names):
-    """Returns the records of two runs. The first interface sends a frame in both, and the second interface only in the second run.
+    """Returns the paths of the records of two runs. The first interface sends a frame in both runs, and the second
+    interface only in the second run.
     """
     records = []
     for folder, senders in (("a", [0]), ("b", [0, 1])):
@@ -196,7 +199,8 @@ def runs_of_two_nodes(tmp_path, *names):
 
 
 def test_names_of_senders_only(tmp_path):
-    """A log names only senders. An interface that has no name in one run is matched by its number in the other run."""
+    """A log contains only the names of senders. An interface that has no name in one run is matched by its index in the
+    other run."""
     one, other = runs_of_two_nodes(tmp_path, "can0", "can1")
     wanted = [
         "1 difference, in attempt 1: only there: can1 123#ABCD: done",
@@ -204,7 +208,7 @@ def test_names_of_senders_only(tmp_path):
     ]
     assert Comparison(read_record(one), read_record(other)).lines() == wanted
     assert Comparison(read_record(one, "can0,can1"), read_record(other, "can0,can1")).lines() == wanted
-    # The same holds without both logs, without one of them, and for a run that is compared with itself without its log.
+    # The differences are the same if both logs are missing or only one is. A run without its log equals itself.
     one.with_suffix(".log").unlink()
     assert Comparison(read_record(one), read_record(other)).lines() == wanted
     assert Comparison(read_record(one), read_record(one, "can0,can1")).differences == []
@@ -217,7 +221,7 @@ def test_names_of_senders_only(tmp_path):
 
 @pytest.mark.parametrize("names", ["can1,can0", "can1,can2", "ecu,tester"])
 def test_names_that_do_not_fit(tmp_path, names):
-    """Interfaces are compared by name if both runs name all of them, otherwise by number."""
+    """Interfaces are matched by name if both runs name all of them, and otherwise by index."""
     one, other = runs_of_two_nodes(tmp_path, "can0", "can1")
     found = Comparison(read_record(other, "can0,can1"), read_record(other, names))
     if names == "can1,can0":
@@ -228,14 +232,14 @@ def test_names_that_do_not_fit(tmp_path, names):
 
 
 def test_receivers_in_another_order(tmp_path):
-    """Receivers with the same names are equal, even if their numbers differ."""
+    """Receivers with the same names are equal, even if their indices differ."""
     one = tmp_path / "a" / "can0.rec"
     run_of(tmp_path, "a", names="can0,can1,can2")
     assert Comparison(read_record(one, "can0,can1,can2"), read_record(one, "can0,can2,can1")).differences == []
 
 
 def test_the_exit_status(tmp_path):
-    """The status is 0 even if the runs differ. With --exit-code it is 1 if they differ, also when a page is written."""
+    """The exit status is 0 even if the runs differ. With --exit-code it is then 1, even if a page is written."""
     one, other = runs_of_two_nodes(tmp_path, "can0", "can1")
     words = ["report", "--names", "can0,can1"]
     for form in ([], ["--text"]):
@@ -246,7 +250,8 @@ def test_the_exit_status(tmp_path):
 
 
 def test_interfaces_without_a_name(tmp_path):
-    """One line explains how to give names. It is missing if all interfaces have names, or no name is printed."""
+    """A note explains how to name the interfaces. It is not printed if all interfaces have names, or if the output
+    contains no names."""
     one, other = runs_of_two_nodes(tmp_path, "can0", "can1")
     note = f"note: {one}: no log names interface 1: name all interfaces with --names can0,NAME\n"
     for words in (["report"], ["report", "--text"], ["replay"], ["replay", "--json"]):
@@ -260,8 +265,8 @@ def test_interfaces_without_a_name(tmp_path):
 @pytest.mark.skipif(PROGRAM is None, reason="not installed: chromium")
 @pytest.mark.parametrize("width", [500, 1200])
 def test_both_on_one_axis(opened, tmp_path, width):  # noqa: F811
-    """Each node has a second lane for the other run. The page begins at the first difference, and shows the other run's events
-    there."""
+    """Each node has a second lane for the other run. The page opens at the first difference, and also shows the other
+    run's events there."""
     one, other = run_of(tmp_path, "a"), run_of(tmp_path, "b", Faults().destroyed(4))
     shown = opened(one.replay, one.names, comparison=Comparison(one, other, "b.rec"))
     shown.size(width)
@@ -273,8 +278,8 @@ def test_both_on_one_axis(opened, tmp_path, width):  # noqa: F811
     assert "The same in b.rec, attempt 5: can0 104#04 done" in said
     shown.key("ArrowLeft")
     assert "The same in b.rec, attempt 3: can0 103#03 done" in shown.run("at('chosen').textContent")
-    # An attempt of the other run is drawn at the place of the same attempt in this run. A failed attempt is at the border before
-    # the last attempt of its frame.
+    # An attempt of the other run is drawn at the position of the matching attempt of this run. A failed attempt is
+    # drawn at the border before the last attempt of its frame.
     spans = "[0, 1].map(which => [...other.spans[0][which]].map(place => Math.round(100 * place)))"
     assert shown.run(spans) == [[0, 100, 200, 300, 370, 400, 500], [100, 200, 300, 400, 430, 500, 600]]
     shown.key("t")
@@ -284,7 +289,7 @@ def test_both_on_one_axis(opened, tmp_path, width):  # noqa: F811
 
 @pytest.mark.skipif(PROGRAM is None, reason="not installed: chromium")
 def test_a_run_beside_nothing(opened, tmp_path):  # noqa: F811
-    """The title says which of the two runs has the frames."""
+    """The title states which of the two runs has the frames."""
     one, nothing = run_of(tmp_path, "a"), run_of(tmp_path, "b", frames=0)
     shown = opened(one.replay, one.names, comparison=Comparison(one, nothing, "b.rec"))
     assert shown.run("at('title').textContent").startswith("6 differences, first in attempt 0: only here: ")
@@ -316,7 +321,8 @@ def test_from_one_difference_to_the_next_and_to_the_other_run(opened, tmp_path):
     shown.run("delete document.body.dataset.drawn")
     shown.key("o")
     shown.until("document.body?.dataset.drawn !== undefined")
-    # The other run's attempt of the same frame is shown with that run's list and load, and the first run is there for comparison.
+    # The page shows the other run's attempt of the same frame, with the list and the load of that run. The first run is
+    # now the one that is compared.
     assert shown.run("location.hash") == "#attempt=10&run=2"
     assert shown.run("run.title") == "other.rec" and shown.run("run.other.title") == "run.rec"
     assert shown.run("attemptOf[axis.count]") == 43 and shown.run("lanes[0].name") == "bus load"
@@ -329,14 +335,14 @@ def test_from_one_difference_to_the_next_and_to_the_other_run(opened, tmp_path):
 
 @pytest.mark.skipif(PROGRAM is None, reason="not installed: chromium")
 def test_bars_of_the_other_run_are_as_long_as_its_attempts(opened, tmp_path):  # noqa: F811
-    """Bars and outages of the other run are as long as its attempts."""
+    """In the other run, bars and outages are drawn as long as that run's attempts took."""
     sent = cyclic("a", "100", 30) + cyclic("b", "200", 30, start=0.003)
     faults = Faults().next(32, sender="b", skip=10).destroyed()
     one = run_at(tmp_path, "one", sent, auto_restart=2)
     other = run_at(tmp_path, "other", sent, faults, auto_restart=2)
     shown = opened(one.replay, one.names, comparison=Comparison(one, other, "other.rec"), rates=Rates(500_000))
     starts, ends = shown.run("[0, 1].map(which => [...other.spans[1][which]])")
-    # The frame has one byte. The record has the end of the frame in microseconds, and 3 bits of intermission follow.
+    # The frame has one byte. The record stores the end of the frame in microseconds, and 3 bits of intermission follow.
     moments = [attempt.timestamp for attempt in other.attempts if attempt.outcome == "done"]
     done = [
         k

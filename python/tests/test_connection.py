@@ -1,4 +1,5 @@
-"""CanbusdBus against a simulated server: messages that are cut at any byte, late or missing answers, and the end of the connection.
+"""CanbusdBus with a simulated server: messages that are split at any byte, late or missing answers, and the end of the
+connection.
 """
 
 import asyncio
@@ -21,8 +22,8 @@ UNKNOWN = "< error unknown command >"
 
 
 class Played:
-    """A server with one session on a Unix path, which answers each message from the table `answers`. An old server does not
-    acknowledge frames."""
+    """A simulated server with one session on a Unix socket. It looks up its answer to each message in the table
+    `answers`. An old server does not acknowledge frames."""
 
     def __init__(self, path, greeting=b"< hi >", cut=False, old=False):
         self.address, self._greeting, self._cut = str(path), greeting, cut
@@ -114,7 +115,7 @@ def test_messages_cut_at_each_byte(play):
             whole = STREAM[:cut].count(b">")
             played.write(STREAM[:cut])
             got = [bus.recv(WAIT) for _ in range(whole)]
-            # The bus does not return an incomplete message.
+            # The bus does not return a message that is incomplete.
             assert bus.recv(0) is None
             played.write(STREAM[cut:])
             got += [bus.recv(WAIT) for _ in range(len(READ) - whole)]
@@ -183,7 +184,7 @@ def test_an_older_server_has_no_list_of_interfaces(play, monkeypatch):
             {"bitrate": 500_000},
             ["bitrate 500000 is left out: the server has none, and frames take no time"],
         ),
-        # Older servers do not report their bit rates.
+        # Older servers do not report bit rates.
         ("load 0 0", {"bitrate": 500_000}, []),
         ("error unknown command", {"bitrate": 500_000, "data_bitrate": 500_000}, []),
     ],
@@ -213,7 +214,7 @@ def test_the_load_of_an_older_server(play, answer):
 def test_whose_a_frame_is(play):
     played = play(cut=True)
     with CanbusdBus("can0", address=played.address, fd=True, receive_own_messages=True) as bus:
-        # A record has at most 4,294,967,294 entries, so the number of a frame has ten digits at most.
+        # A record has at most 4,294,967,294 entries, so the index of a frame has at most ten digits.
         for number in (0, 7, 5000, 4294967293):
             played.answers["send"] = f"< frame 124 1.000000  same {number + 1} >< ack {number} >"
             bus.send(message(1))
@@ -247,7 +248,7 @@ def test_what_is_no_ack_is_a_refusal(play, verdict):
 
 
 class Overtaken:
-    """A lock that another thread has just released, after it has read from the connection."""
+    """A lock that another thread has just released, after that thread has read from the connection."""
 
     def __init__(self, lock, reads):
         self._lock, self._reads = lock, [reads]
@@ -322,7 +323,7 @@ def test_an_answer_that_comes_too_late(play, old, end):
                 bus.send(message(1))
         played.answers.clear()
         played.answers.update(answers)
-        # These late answers belong to earlier questions, so no later call gets them.
+        # These late answers belong to earlier requests, so later calls do not return them.
         played.write(b"< error bus off >%b< error no buffers >%b" % (end, end))
         bus.send(message(2))
         played.answers["status"] = "< status active 1 2 >"
@@ -371,7 +372,7 @@ def test_a_server_that_takes_nothing(play):
 
 
 def ends_of(bus):
-    """Returns the errors of a bus whose server is gone: of a waiting call, and of later calls."""
+    """Checks that waiting and later calls of a bus raise an error after the server has gone."""
     for call in (lambda: bus.recv(WAIT), lambda: bus.recv(0), bus.recv, lambda: bus.send(message(1)), bus.stats):
         with pytest.raises(can.CanOperationError, match="the server closed the connection|the connection broke"):
             call()
@@ -431,7 +432,8 @@ def test_a_server_that_dies_is_reported_once_on_asyncio():
                 await asyncio.sleep(0.01)
                 if faults:
                     break
-            # If the file descriptor stayed readable, this pause would see thousands of calls.
+            # If the file descriptor were still readable, the callback would be called thousands of times during this
+            # pause.
             await asyncio.sleep(0.1)
             notifier.stop()
             assert not select.select([bus], [], [], 0)[0]

@@ -1,4 +1,5 @@
-"""The content of databases: messages with their senders, times and signals. Files that are no database are refused."""
+"""The contents of databases: messages with their senders, timing and signals. Files that are not databases are refused.
+"""
 
 import random
 from pathlib import Path
@@ -11,7 +12,7 @@ from canbusd.signals import HOW_TO_GET, DatabaseError, load_database
 from test_signals import LIBRARIES
 
 REST = Path(__file__).with_name("rest.dbc")
-# These values were worked out by hand from the file: 3200 * 0.25 is 800, and 0 with the offset -40 is -40.
+# These values were computed by hand from the file: 3200 * 0.25 is 800, and 0 with the offset -40 is -40.
 SHOWN = """\
 EngineData 100 [8] from Engine, every 10 ms, NoMsgSendType
   EngineSpeed: 0 to 16000 rpm; starts as 800; for ECU, Gateway
@@ -56,12 +57,12 @@ def library(request):
 
 @pytest.fixture
 def rest(library):
-    """The database of the file rest.dbc."""
+    """The database from the file rest.dbc."""
     return load_database(REST, library=library)
 
 
 def written(folder, text, name="wrong.dbc"):
-    """Returns the database in a file with this text."""
+    """Writes a database file with these contents, and returns its path."""
     path = folder / name
     path.write_text(text)
     return path
@@ -89,12 +90,14 @@ def test_the_message_of_a_frame(rest):
 
 
 def random_signals(rng):
-    """Returns signals of a message of 8 bytes that do not overlap, each with its line of a DBC file and its raw limits."""
+    """Chooses random signals for a message of 8 bytes that do not overlap. Returns their lines for a DBC file, and
+    their raw limits by name."""
     taken, lines, limits = set(), [], {}
     for number in range(rng.randint(1, 6)):
         size, is_little, is_signed = rng.randint(1, 20), rng.random() < 0.5, rng.random() < 0.5
         start = rng.randrange(64)
-        # DBC files count bits up from the lowest bit, or down from the highest bit and then on in the next byte.
+        # DBC files count bits upwards from the lowest bit, or downwards from the highest bit and then on to the next
+        # byte.
         bits, bit = [], start
         for _ in range(size):
             bits.append(bit)
@@ -134,9 +137,9 @@ def test_floats(tmp_path, library):
 
 
 def test_what_is_not_given_is_as_it_starts(rest):
-    # 800 / 0.25 is 0C80 in hexadecimal, and -40 is 00.
+    # 800 / 0.25 is 0C80 in hexadecimal, and the raw value of -40 is 00.
     assert str(rest.encode("EngineData", {})) == "100#800C000000000000"
-    # The highest byte is first: -1.5 / 0.5 is FFFD.
+    # The most significant byte is first: -1.5 / 0.5 is FFFD.
     assert str(rest.encode("EcuData", {"Torque": -1.5})) == "123#FFFD"
     # The range [0|0] means that there is no limit: -8 / 0.5 is FFF0.
     assert str(rest.encode("GatewayPage", {"Page": 0, "Left": -8})) == "300#00F0FF"
@@ -156,7 +159,7 @@ def test_multiplexers_of_multiplexers(library, tmp_path):
 @pytest.mark.parametrize(
     "ending, line",
     [
-        # canmatrix writes these files: KCD and SYM have no send types, SYM has no nodes, and ARXML has no cycle times.
+        # canmatrix writes these files. KCD and SYM have no send types, SYM has no nodes, and ARXML has no cycle times.
         ("kcd", "EngineStatus 200 [2] from Engine, every 100 ms"),
         ("sym", "EngineStatus 200 [2] from nobody, every 100 ms"),
         ("arxml", "FRAME_EngineStatus 200 [2] from Engine"),

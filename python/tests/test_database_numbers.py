@@ -1,4 +1,5 @@
-"""DBC files with arbitrary numbers: each file is read within a second and 100 MB, or refused with the number of the line."""
+"""DBC files with arbitrary numbers. Each file is either read within a second, using at most 100 MB of memory, or
+refused with the number of the line."""
 
 import multiprocessing
 import random
@@ -18,7 +19,7 @@ from canbusd.signals import DatabaseError, load_database
 
 HERE = Path(__file__).parent
 HEAD = 'VERSION ""\n\nBU_: ECU TESTER\n\nBO_ 291 M: 8 ECU\n'
-# This file has a float, a multiplexer of two levels, and every attribute with a number that the package reads.
+# This file contains a float, a multiplexer with two levels, and all numeric attributes that the package reads.
 MORE = """\
 VERSION ""
 
@@ -46,7 +47,7 @@ SIG_VALTYPE_ 291 speed : 1;
 SG_MUL_VAL_ 291 right left 1-1, 3-5;
 """
 NUMBER = re.compile(r"(?<![\w.])[-+]?\d+(?:\.\d+)?(?:[eE][-+]?\d+)?(?![\w.])|(?<=\bm)\d+")
-# The limits of bits, bytes, words and doubles, long numbers, and texts that are no number.
+# The limits of bits, bytes, words and doubles, long numbers, and strings that are not numbers.
 EDGES = (
     *("0", "1", "-1", "7", "8", "63", "64", "65", "255", "65535", "65536", "2147483648", "4294967295", "4294967296"),
     *("18446744073709551616", "99999999999", "1000000000", "9" * 30, "9" * 400, "9" * 5000, "3.4E+38", "-3.4E+38"),
@@ -81,12 +82,12 @@ EDGES = (
 
 @pytest.fixture(autouse=True)
 def canmatrix():
-    """Skips a test without canmatrix, the library that Debian packages."""
+    """Skips the test if canmatrix is missing, the library that Debian packages."""
     pytest.importorskip("canmatrix", reason="canmatrix is not installed")
 
 
 def mutated(seed):
-    """Returns the text of a file in which one to three numbers are replaced."""
+    """Returns the contents of a DBC file in which one to three numbers are replaced."""
     lot = random.Random(seed)
     text = lot.choice([MORE, *((HERE / name).read_text() for name in ("car.dbc", "rest.dbc"))])
     for one in sorted(lot.sample([*NUMBER.finditer(text)], lot.randint(1, 3)), key=lambda found: -found.start()):
@@ -99,7 +100,7 @@ def mutated(seed):
 
 
 def used(path):
-    """Reads a file, and shows, encodes and decodes its messages. Raises DatabaseError if the package does."""
+    """Reads a file, then prints, encodes and decodes its messages. Raises DatabaseError if the package raises it."""
     database = load_database(path, library="canmatrix")
     assert str(database)
     for message in database.messages:
@@ -114,10 +115,11 @@ def used(path):
 
 
 def tried(folder, seeds, results):
-    """Tries files in a separate process. `results` gets the errors, and finally the used memory in MB."""
+    """Tries files in a separate process. Puts errors into `results`, also if the files use more than 100 MB, and
+    finally None."""
     resource.setrlimit(resource.RLIMIT_AS, (1 << 30, 1 << 30))
     path = folder / "x.dbc"
-    # This run imports the modules, so that their memory does not count.
+    # This first call imports the modules, so that their memory is not counted.
     path.write_text(MORE)
     used(path)
     before = resource.getrusage(resource.RUSAGE_SELF).ru_maxrss
@@ -202,7 +204,7 @@ def test_a_fault_whose_line_the_library_does_not_say(tmp_path):
 
 
 def test_numbers_in_texts_are_none(tmp_path):
-    """Numbers inside texts are not checked, even if a text has several lines or escaped quotes."""
+    """Numbers inside strings are not checked, even if a string has several lines or escaped quotes."""
     text = 'CM_ SG_ 291 s "1E999999 \\" 1E999999\nand 1E999999\n BO_ 1 N: 99999999999 ECU\n1E999999";\n'
     path = written(tmp_path, f'{HEAD} SG_ s : 0|8@1+ (1,0) [0|0] "1E999999" TESTER\n{text}')
     assert [one.name for one in load_database(path, library="canmatrix").messages] == ["M"]
@@ -219,7 +221,7 @@ def test_a_file_without_lines(tmp_path):
 
 
 def test_ranges_of_multiplexers(tmp_path):
-    """Ranges of multiplexers have a limit, because cantools makes lists of them."""
+    """The ranges of multiplexers are limited, because cantools expands them into lists."""
     path = written(tmp_path, f"{HEAD}SG_MUL_VAL_ 291 s t 1-1, 0-65536;\n")
     check_numbers(str(path))
     check_numbers(str(path), 65_537)

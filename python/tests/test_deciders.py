@@ -1,4 +1,5 @@
-"""Each attempt's fault rule, found from the fault file that a run was given or left. test_report.py tests the page."""
+"""The rule that decided each attempt, found from the fault file that was given to the run or written by it.
+test_report.py tests the page."""
 
 import os
 import random
@@ -15,13 +16,13 @@ SCRIPT = "0 global bit\nnext 1 from a local crc b\nnext 1 id 124 good\n"
 
 
 def ruled(record, path, *of):
-    """Returns the deciding rule of each attempt, for the faults in this file."""
+    """Returns the rule that decided each attempt, according to the faults in this file."""
     return deciders(record, FaultsFile(path, *of))
 
 
 def run_of(folder, script, *injected):
-    """Returns the record and the attempts of a run. a sends 123 until it succeeds, then 124 and 125. b sends the same frames after
-    that."""
+    """Returns the record and the attempts of a run. Node a sends 123 until it succeeds, then 124 and 125. Node b sends
+    the same frames after that."""
     with Bench("a,b", faults=script or None, out=folder) as bench:
         one, other = bench.open("a"), bench.open("b")
         for identifier in (0x123, 0x124, 0x125):
@@ -38,7 +39,8 @@ def run_of(folder, script, *injected):
 
 
 def test_which_rule_decided(tmp_path):
-    """A numbered line is no rule. A rule can decide an attempt by the verdict good, and the record agrees with the bench."""
+    """A numbered line is not a rule. A rule can decide an attempt with the verdict `good`. The record and the bench
+    agree."""
     record, attempts = run_of(tmp_path, SCRIPT)
     wanted = ["", "next 1 from a local crc b", "", "next 1 id 124 good", *[""] * 4]
     assert [attempt.fault for attempt in attempts] == ["global bit", "local crc b", *["good"] * 6]
@@ -52,13 +54,13 @@ def test_which_rule_decided(tmp_path):
 
 
 def test_which_of_the_rules_that_came_later_it_was(tmp_path):
-    """The right rule is found if two of the added rules give the same fault. Added rules get numbers after those of the script,
-    wherever their lines are."""
+    """The right rule is found even if two of the added rules cause the same fault. Added rules are numbered after those
+    of the script, wherever their lines are."""
     rules = ["next 1 id 124 lastbit", "next 1 from b id 125 global form", "next 1 id 124:7FE global form"]
     record, attempts = run_of(tmp_path, SCRIPT, *rules)
     faults = [attempt.fault for attempt in attempts if attempt.winner == "b"]
     assert faults == ["good", "lastbit", "global form", "good", "global form", "good"]
-    # a has made five attempts before the rules are added.
+    # Node a has made five attempts before the rules are added.
     later = "".join(f"at 5 {rule}\n" for rule in rules)
     of_a = ["", "next 1 from a local crc b", "", "next 1 id 124 good", ""]
     for text in (f"{SCRIPT}{later}", f"{later}at 99 nofaults\nat 99 next 1 good\n{SCRIPT}"):
@@ -69,7 +71,8 @@ def test_which_of_the_rules_that_came_later_it_was(tmp_path):
 
 @pytest.mark.parametrize("ending", [".new", ".cut"])
 def test_faults_whose_last_line_is_torn(tmp_path, ending):
-    """A record that is cut off has its faults next to it, as a server leaves them. A last line without LF counts if it is complete.
+    """An incomplete record has its faults in a file next to it, as after a server was killed. A last line without LF
+    counts if it is complete.
     """
     _, _ = run_of(tmp_path, "", "next 1 lastbit")
     text = (tmp_path / "a.rec").read_text().rpartition("end ")[0]
@@ -84,7 +87,8 @@ def test_faults_whose_last_line_is_torn(tmp_path, ending):
         assert faults.torn == left_out
     (tmp_path / f"a.rec.faults{ending}").write_text(f"{whole}\nat")
     for faults in (faults_beside(record), FaultsFile(tmp_path / f"a.rec.faults{ending}", record)):
-        # If the record is complete, its faults must be complete too, even if the file name has this ending.
+        # If the record is complete, its faults must be complete too, even if the file name has the ending of an
+        # incomplete record.
         with pytest.raises(BadRecord, match="^script line 3: bad line: `at`"):
             deciders(read_record(record, ["a", "b"], cut=True), faults)
     record.write_text(text)
@@ -129,7 +133,7 @@ def test_a_script_with_a_cr(tmp_path):
 
 
 def test_faults_that_come_by_a_pipe(tmp_path):
-    """Faults from a pipe are read once."""
+    """Faults that are read from a pipe are read once."""
     record, _ = run_of(tmp_path, SCRIPT)
     wanted = ruled(record, tmp_path / "faults")
     reads, writes = os.pipe()
@@ -148,7 +152,8 @@ def test_a_record_that_comes_by_a_pipe(tmp_path):
 
 
 def test_a_record_that_is_read_once(tmp_path):
-    """A record from a pipe is read once, with its times on the wire. Wrong faults and a wrong record are reported."""
+    """A record that is read from a pipe is read once, with its times on the wire. Wrong faults and a wrong record are
+    reported."""
     record, _ = run_of(tmp_path, SCRIPT)
     wanted = ruled(record, tmp_path / "faults")
     rates = Rates(500_000)
@@ -172,7 +177,7 @@ def test_a_record_that_is_read_once(tmp_path):
 
 
 def record_of(*identifiers, names=("a", "b")):
-    """Returns the record of a run in which the first interface sends one frame with each of these identifiers."""
+    """Returns the record of a run in which the first interface sends one frame for each identifier."""
     lines = ["open 0 256 = socket 0"]
     for number, identifier in enumerate(identifiers):
         frame = f"{identifier:03X}#"
@@ -190,16 +195,17 @@ USED = "".join(f"at {number} next 1 id {number:03X} good\n" for number in range(
 @pytest.mark.parametrize(
     "faults, rules",
     [
-        # None of the 64 rules can be used up before attempt 0, so the bus refused the 65th rule, which gets no number.
+        # None of the 64 rules can be used up before attempt 0, so the bus refused the 65th rule. A refused rule gets no
+        # number.
         (f"{FULL}at 0 next 9 id 001 global form\nat 0 nofaults\nat 0 next 1 id 000 good\n", {0: "next 1 id 000 good"}),
-        # Attempt 0, whose verdict is good, could have used up one rule, but did not.
+        # Attempt 0 has the verdict `good`. It could have used up one rule, but did not.
         (f"{FULL}at 1 next 9 id 001 good\nat 1 nofaults\nat 1 next 1 id 002 good\n", {2: "next 1 id 002 good"}),
         # All rules before attempt 2 are known.
         (f"at 0 next 1 id 000 good\n{FULL[:-22]}at 1 always good\nat 2 nofaults", {0: "next 1 id 000 good", 1: "always good"}),
-        # An endless rule is never used up. Neither is a rule for more attempts than the run had.
+        # An endless rule is never used up, and neither is a rule for more attempts than there were in the run.
         ("always id 7FF good\n" * 63 + "next 3 id 7FE good\nat 2 always lastbit\nat 2 nofaults\nat 2 always good", {2: "always good"}),
         ("always id 7FF good\n" * 63 + "next 2 id 7FE good\nat 2 always lastbit\nat 2 nofaults\nat 2 always good", {2: "always good"}),
-        # If all rules are ended, the attempts before no longer matter.
+        # Once all rules have been ended, earlier attempts no longer matter.
         ("at 1 nofaults\n" + "at 1 next 1 id 7FE good\n" * 64 + LATE, {1: "next 1 id 001 good"}),
         # USED has a hundred rules, and each of them is used up at once.
         (USED, {number: f"next 1 id {number:03X} good" for number in range(3)}),
@@ -213,7 +219,7 @@ def test_more_rules_than_have_a_place(tmp_path, faults, rules):
 
 
 def test_an_interface_that_is_called_nofaults(tmp_path):
-    """An interface may be called nofaults. A rule that ends with its name does not end other rules."""
+    """An interface may be named nofaults. A rule whose last word is this name does not end other rules."""
     full = "at 0 always id 7FF local crc nofaults\n" * 63
     (tmp_path / "faults").write_text(f"{full}at 0 always good\nat 0 always local crc nofaults\n")
     record = record_of(0, names=["a", "nofaults"])
@@ -221,8 +227,8 @@ def test_an_interface_that_is_called_nofaults(tmp_path):
 
 
 def random_faults(source, attempts):
-    """Returns more than 64 rules for these attempts, most of which have the number of their attempt as identifier. Some take
-    several attempts, some find no room, and some are ended."""
+    """Returns more than 64 rules for these attempts. Most of them have the index of their attempt as identifier. Some
+    apply to several attempts, some are refused because there is no room, and some are ended."""
     lines, left = [], source.choice([50, 70, 100])
     for attempt in range(attempts):
         for _ in range(source.choice([0, 1, 1, 1, 2, 3, left])):
@@ -238,7 +244,7 @@ def random_faults(source, attempts):
 
 
 def test_the_rules_are_about_the_attempts(tmp_path):
-    """Each deciding rule has the identifier of its attempt."""
+    """The rule that decided an attempt always has the identifier of that attempt."""
     known = 0
     record = record_of(*range(120))
     for seed in range(40):

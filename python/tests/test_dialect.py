@@ -1,4 +1,4 @@
-"""Servers and benches share a dialect: a test has the same results on both, with and without a bit rate."""
+"""Servers and benches share one dialect: a test yields the same results on both, with and without a bit rate."""
 
 import can
 import pytest
@@ -28,7 +28,7 @@ def ends(run):
 
 
 def is_exact(run):
-    """Returns whether times are exact, so that a busy machine delays nothing."""
+    """Returns whether times are exact, so that a busy machine causes no delay."""
     return isinstance(run, Bench) or is_virtual()
 
 
@@ -173,7 +173,7 @@ def test_a_periodic_frame_changes(run, ends):
 
 def test_a_full_queue(run, ends):
     ecu, _ = ends
-    # The transmit queue is smaller than this number of frames.
+    # The transmit queue has room for fewer frames than this loop sends.
     for number in range(25):
         ecu.send(0x200, bytes([number]), timeout=WAIT)
     assert run.expect(0x200, bytes([24]), within=WAIT)
@@ -187,7 +187,7 @@ def test_the_time_of_a_bench():
         began = bench.now
         ecu.send(0x123, b"\x01")
         found = tester.recv(timeout=1)
-        # A frame of 11 bits with one byte has 55 bits and at most 12 stuff bits.
+        # An 11-bit frame with one data byte has 55 bits and at most 12 stuff bits.
         assert began + 55 * 2e-6 <= found.timestamp <= began + 67 * 2e-6 and bench.now == pytest.approx(
             found.timestamp, abs=2e-4
         )

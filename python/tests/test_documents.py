@@ -1,4 +1,4 @@
-"""The Python code in the documents runs exactly as it is printed."""
+"""The Python code in the documents runs exactly as printed."""
 
 import importlib.util
 import re
@@ -11,12 +11,12 @@ from canbusd._library import library
 from canbusd.server import Server
 
 CLONE = Path(__file__).resolve().parents[2]
-# These documents have a first test that fails without its faults.
+# The first test in each of these documents fails without its faults.
 DOCUMENTS = {"readme": "README.md", "guide": "docs/GUIDE.md"}
 
 
 def blocks(path):
-    """Returns the blocks of Python in a document."""
+    """Returns the Python code blocks in a document."""
     return re.findall(r"^```python\n(.*?)^```$", (CLONE / path).read_text(encoding="utf-8"), re.M | re.S)
 
 

@@ -1,4 +1,4 @@
-"""Interfaces that go down and up: on a server, on a bench, with a rest bus, with programs, and by commands."""
+"""Interfaces that go down and up: on a server and a bench, with a rest bus and with programs, and by commands."""
 
 import errno
 import re
@@ -22,7 +22,7 @@ from test_commands import call
 from test_lying_server import liar
 from test_report import data_of
 
-#: A program that prints a line at its start, and sends a frame on request.
+#: A program that prints a line when it starts, and sends a frame on request.
 PROGRAM = """
 import can
 with can.Bus(interface="socketcan", channel="ecu") as bus:
@@ -43,7 +43,7 @@ def run(request):
 
 @pytest.fixture
 def database(tmp_path):
-    """A database with two nodes, one of which sends a message every 10 ms."""
+    """The path of a DBC file with two nodes, one of which sends a message every 10 ms."""
     path = tmp_path / "car.dbc"
     path.write_text(DBC)
     return path
@@ -57,14 +57,14 @@ def test_an_interface_goes_down_and_up(run):
         with pytest.raises(Exception, match="^interface down") as refused:
             ecu.send(0x100)
         assert isinstance(refused.value, RuntimeError if isinstance(run, Bench) else can.CanOperationError)
-        # A second call of down() changes nothing.
+        # Calling down() a second time has no effect.
         run.down("ecu")
         run.up("ecu")
         run.expect_state("ecu", "active")
         assert ecu.error_counters() == ("active", 0, 0)
         ecu.send(0x101)
         assert tester.recv(timeout=WAIT).arbitration_id == 0x101
-        # A second call of up() changes nothing.
+        # Calling up() a second time has no effect.
         run.up("ecu")
         assert run.state("ecu") == "active"
 
@@ -76,7 +76,7 @@ def test_a_session_takes_its_interface_down(run):
         ecu.up()
         assert ecu.error_counters() == ("active", 0, 0)
         ecu.down()
-        # A restart also brings the interface up.
+        # A restart of the ECU also brings its interface up.
         ecu.restart()
         assert ecu.error_counters().state == "active"
         with pytest.raises(Exception, match="ecu: not bus off, but active"):
@@ -104,7 +104,7 @@ def test_a_down_takes_what_waits():
         stats = sender.stats()
         assert (stats.sent, stats.done, stats.waiting, stats.lost) == (3, 1, 0, 2)
         assert [(one.winner, one.accepted) for one in bench.run()] == [("can1", ("can2",))]
-        # The socket received no frame while its interface was down.
+        # The socket has received no frame while its interface was down.
         assert [frame.arbitration_id for frame in sender.receive()] == []
         sender.up(at=0.3)
         (back,) = sender.receive()
@@ -121,7 +121,7 @@ def test_down_after_bus_off():
         assert bench.run()[-1].off == ("can0",)
         sender.down()
         assert sender.status() == ("down", 256, 0)
-        # No automatic restart brings the interface up.
+        # An automatic restart does not bring an interface up.
         assert [bench.attempt() for _ in range(5)] == [None] * 5
         sender.up()
         assert sender.status() == ("active", 0, 0)
@@ -162,12 +162,12 @@ def test_a_node_and_its_rest_bus(run, database):
         node.power_on()
         assert run.state("ecu") == "active"
         run.expect(0x100, within=WAIT)
-        # No frame was refused, because the node sent none while it was down.
+        # The node sent no frames while it was down, so none was refused.
         assert before.refused == rest.counts("EngineData").refused == 0
         with node.unplugged():
             run.expect_state("ecu", "down")
         assert run.state("ecu") == "active" and rest.message("EngineData").is_running
-        # A message that was stopped before stays stopped.
+        # A message that was stopped earlier stays stopped.
         rest.stop("EngineData")
         node.sleep()
         node.wake()
@@ -282,7 +282,7 @@ EVENTS = [
 
 
 def replay_of(lines, at_once):
-    """Returns the replay of these lines, which takes `at_once` lines in each call."""
+    """Returns the replay of these lines, fed with `at_once` lines in each call."""
     run = Replay()
     for first in range(0, len(lines), at_once):
         run.take(lines[first : first + at_once])
@@ -299,7 +299,7 @@ def test_downs_are_steps(at_once):
     assert [*run.steps.down] == [0, 1, 1, 1, 1, 0, 0, 1]
     assert run.lost == {1: [(1, "101#"), (2, "102#")]}
     assert [step.waiting for step in run.steps[:3]] == [(2, 0, 0), (2, 1, 0), (0, 1, 0)]
-    # Faults do not hit an interface that is down.
+    # Faults do not affect an interface that is down.
     assert [step.hit for step in run.steps[2:4]] == [(2,), ()]
     assert run.refused == {(0, "interface-down"): [1, 1]}
     ecu, tester, _ = run.ifaces

@@ -1,5 +1,5 @@
-"""End-to-end protection: the check values of AUTOSAR's SWS_CRCLibrary, the examples of PRS_E2EProtocol, and the
-detected faults."""
+"""End-to-end protection: the check values in AUTOSAR's SWS_CRCLibrary, the examples in PRS_E2EProtocol, and the faults
+that are detected."""
 
 import pytest
 
@@ -10,7 +10,7 @@ from canbusd.server import Server
 from canbusd.signals import load_database
 from common import WAIT
 
-#: The inputs and CRCs of the examples in SWS_CRCLibrary, for SAE J1850, 2F and CCITT.
+#: The inputs and CRCs from the examples in SWS_CRCLibrary, for SAE J1850, 2F and CCITT.
 CRCS = [
     ("00 00 00 00", 0x59, 0x12, 0x84C0),
     ("F2 01 83", 0x37, 0xC2, 0xD374),
@@ -35,7 +35,7 @@ BA_DEF_DEF_ "GenMsgCycleTime" 10;
 
 @pytest.fixture
 def dbc(tmp_path):
-    """Writes a file with a message that has counters and checksums."""
+    """The path of a DBC file with a message that has counters and checksums."""
     pytest.importorskip("canmatrix")
     (tmp_path / "car.dbc").write_text(DBC)
     return tmp_path / "car.dbc"
@@ -60,7 +60,8 @@ def test_crcs_of_another_program(rng_bytes=bytes(range(256))):
             assert own(data) == other(data)
 
 
-#: The examples of PRS_E2EProtocol: 8 or 16 zero bytes, with the data ID 123 or 1234, or with the data IDs 01 to 10.
+#: The examples from PRS_E2EProtocol: 8 or 16 zero bytes with the data ID 123 or 1234, or with the data IDs 01 to 10.
+#: All IDs are in hexadecimal.
 IDS = range(1, 17)
 EXAMPLES = [
     (e2e.Profile1(0x123), 8, 0, "cc 00 00 00 00 00 00 00"),
@@ -91,7 +92,8 @@ def test_examples(profile, size, counter, wanted):
     assert profile.is_right(data) and profile.counter(data) == counter
 
 
-#: These modes have no example in a standard. The expected bytes follow the words of the standard, with CRCs by another program.
+#: The standards contain no examples for these modes. The expected bytes follow the text of the standard, and another
+#: program computes the CRCs.
 def test_other_modes():
     crcmod = pytest.importorskip("crcmod")
     crc = crcmod.mkCrcFun(0x11D, initCrc=0, rev=False, xorOut=0)
@@ -116,7 +118,7 @@ def test_each_bit_counts(profile):
     for bit in range(64):
         wrong = bytearray(right)
         wrong[bit // 8] ^= 1 << bit % 8
-        # The message may have four bits of the data ID, which only the CRC protects.
+        # The message may contain four bits of the data ID, which are protected only by the CRC.
         assert not profile.is_right(bytes(wrong))
 
 
@@ -127,7 +129,7 @@ def test_counters_go_round(profile):
     assert found == ["initial"] + ["ok"] * 599
     sent = e2e.Protection(profile)
     counters = [profile.counter(sent.applied(bytes(8))) for _ in range(profile.modulo + 1)]
-    # Profiles 2 and 22 increment the counter before they send.
+    # Profiles 2 and 22 increment the counter before they send a message.
     first = 1 if isinstance(profile, e2e.Profile2) else 0
     assert counters == [(first + number) % profile.modulo for number in range(profile.modulo + 1)]
 
@@ -140,7 +142,7 @@ def test_what_is_found():
     for fault, count in (("repeated", 2), ("wrong crc", 1), ("some lost", 1)):
         protection.inject(fault, count)
     found += [checker.check(protection.applied(bytes(8))) for _ in range(6)]
-    # The frame with the wrong checksum advanced the sender's counter, so the next frame is out of sequence.
+    # The frame with the wrong checksum incremented the sender's counter, so the next frame is out of sequence.
     assert found == ["initial", "ok", "repeated", "repeated", "wrong crc", "wrong sequence", "ok", "ok"]
     protection.inject("some lost")
     assert checker.check(protection.applied(bytes(8))) == "some lost"
@@ -155,7 +157,7 @@ def test_signals(dbc):
     assert data == bytes([e2e.crc8(bytes.fromhex("57112233445566"))]) + bytes.fromhex("57112233445566")
     assert profile.is_right(data) and profile.counter(data) == 7
     other = e2e.Signals("Alive", crc="Sum", function=sum).of(message).protect(bytes([0xFF] * 8), 0)
-    # The checksum has its high byte first.
+    # The checksum has its most significant byte first.
     assert other == bytes.fromhex("fff0ffffffff") + (0xFF * 5 + 0xF0).to_bytes(2, "big")
     assert e2e.Signals("Alive").of(message).protect(bytes(8), 17).hex() == "0001000000000000"
 

@@ -1,4 +1,5 @@
-"""Expectations on a running server: states, frames that come or do not come, and the texts of failures."""
+"""Expectations on a running server: interface states, frames that must or must not arrive, and the messages of failed
+expectations."""
 
 import contextlib
 import re
@@ -16,14 +17,14 @@ OFF = Faults().destroyed(range(32))
 
 @pytest.fixture
 def observed():
-    """A server whose interface can1 is observed."""
+    """A server that observes only the interface can1."""
     with Server("can0,can1,can2", observe="can1") as running:
         yield running
 
 
 @pytest.fixture
 def can0(observed):
-    """A bus on can0 of the observed server."""
+    """A bus on can0 of the server `observed`."""
     with observed.bus("can0") as bus:
         yield bus
 
@@ -62,7 +63,7 @@ def test_frames_are_found_in_their_order(observed, can0):
     )
     assert observed.expect(id=0x123, within=WAIT).data[0] == 0
     assert observed.expect(0x123, b"\x02", within=WAIT).channel == "can1"
-    # The first two frames are taken already, and the next frame with identifier 123 has 29 bits.
+    # The first two frames have already been taken, and the next frame with identifier 123 has a 29-bit identifier.
     observed.expect_no_frame(id=0x123, within=0.05)
     assert observed.expect(0x123, is_extended_id=True, within=WAIT).is_extended_id
     assert observed.expect(id=0x18DAF110, within=WAIT).is_extended_id
@@ -92,8 +93,8 @@ def test_error_message_frames_are_shown_in_words():
         assert server.expect(id=0x040, is_error_frame=True, channel="can0", within=WAIT).channel == "can0"
         with pytest.raises(AssertionError) as failure:
             server.expect(within=0.05, channel="can1")
-        # ISO 11898-1: each error adds 8 to the sender's counter and 1 to the receiver's. Bus off begins at 256, and empties the
-        # queue.
+        # ISO 11898-1: every error adds 8 to the sender's counter and 1 to the receiver's. At 256 the sender goes bus
+        # off, which empties its queue.
         *_, last, sender, receiver = str(failure.value).split("\n")
         assert last.endswith("can0 20000040#0000000000000000  bus off")
         assert sender == "can0 is off (transmit count 256, receive count 0): sent 1, done 0, waiting 0, lost 1"
@@ -144,13 +145,13 @@ def test_what_can_be_observed(observed):
 
 
 def test_all_interfaces_are_observed_without_a_word(pair, server):
-    """A frame that several interfaces receive counts once. Its channel is the first interface that receives it from another
-    one."""
+    """A frame that several interfaces receive counts once. Its channel is the first interface that received it from
+    another interface."""
     can0, can1 = pair
     can0.send(message(0x123, [1]))
     can1.send(message(0x123, [2]))
     can0.send(message(0x124))
-    # Each interface is counted separately, even the sender's.
+    # Each interface's frames are counted separately, and include the frames that the interface sent itself.
     assert server.expect(id=0x123, channel="can0", within=WAIT).data == b"\1"
     assert server.expect(id=0x123, channel="can0", within=WAIT).data == b"\2"
     assert server.expect(id=0x123, channel="can1", within=0).data == b"\1"
@@ -169,8 +170,8 @@ def test_each_frame_is_found_once(server, pair):
 
 
 def test_a_frame_is_seen_though_its_receivers_miss_it():
-    """An error passive receiver that sees an error does not destroy the frame (ISO 11898-1). Only this receiver misses the frame.
-    """
+    """An error passive receiver can't destroy the frame in which it sees an error (ISO 11898-1). Only this receiver
+    misses the frame."""
     with Server("can0,can1,can2") as server, server.bus("can0") as can0, server.bus("can1") as can1:
         server.inject(Faults().next(17, sender="can1").destroyed().next(1, sender="can0").local("crc", ["can1"]))
         can1.send(message(0x700))
@@ -187,14 +188,14 @@ def test_short_bus_offs_are_never_missed(auto_restart):
         for number in range(1, 31):
             server.inject(Faults().next(32, sender="can0").destroyed())
             can0.send(message(0x123))
-            # Frames of can1 keep the attempts going, so that can0 restarts at once.
+            # Attempts to send frames from can1 continue, so that can0 restarts at once.
             server.wait_for(lambda: can0.stats().lost == number, WAIT)
             assert server.expect_state("can0", "off", within=WAIT).tec in (0, 256)
             assert server.expect_state("can0", "active", within=WAIT) == ("active", 0, 0)
 
 
 def test_a_state_that_was_before_does_not_count(server, pair):
-    """After bus off, the earlier state active does not count, and each later state counts."""
+    """After bus off, an earlier `active` state does not count, and every later state does."""
     server.inject(Faults().next(32, sender="can0").destroyed())
     pair[0].send(message(1))
     server.wait_for(lambda: server.state("can0") == "off", WAIT)
@@ -209,7 +210,7 @@ def test_a_state_that_was_before_does_not_count(server, pair):
 
 
 def test_a_failure_names_what_was_seen_just_before(server, pair):
-    """A failure shows the frames up to now, even if no other call has looked for frames before."""
+    """A failure message shows all frames so far, even if no earlier call has looked for frames."""
     pair[0].send(message(0x124))
     server.wait_for(lambda: pair[0].stats().done, WAIT)
     with pytest.raises(
@@ -219,7 +220,8 @@ def test_a_failure_names_what_was_seen_just_before(server, pair):
 
 
 def test_more_frames_than_a_socket_holds_are_seen(tmp_path):
-    """A Unix socket holds some 4,000 frames. More frames than that are seen, although nobody expects a frame while they come."""
+    """A Unix socket has room for about 4,000 frames. More frames than that are observed, although no call expects a
+    frame while they arrive."""
     options = {"pace_ms": 0, "txqueue": 64, "rxqueue": 1024, "listen": str(tmp_path / "socket")}
     with Server("can0,can1", **options) as server, server.bus("can0") as can0:
         can0.send_many([message(number % 256, number.to_bytes(2, "big")) for number in range(12_000)], 10 * WAIT)
@@ -229,7 +231,7 @@ def test_more_frames_than_a_socket_holds_are_seen(tmp_path):
 
 
 def test_what_nobody_expects_is_kept_piece_by_piece(monkeypatch):
-    # The session keeps 7 frames. The rest are handed on in groups of 2, in the order of the bus.
+    # The session keeps 7 frames. The rest are passed on in groups of 2, in the order of the bus.
     monkeypatch.setattr("canbusd._expect.observer.MOST_UNREAD_FRAMES", 7)
     monkeypatch.setattr("canbusd._expect.observer.FRAMES_AT_ONCE", 2)
     with Server("can0,can1", txqueue=100) as server, server.bus("can0") as can0:
@@ -250,7 +252,7 @@ def test_frames_that_were_dropped_are_no_frames_that_did_not_come(monkeypatch):
             server.expect_no_frame(id=1, within=0)
         can0.send(message(2))
         server.expect(id=2, within=WAIT)
-        # The frames with identifier 1 came before this frame.
+        # The dropped frames came before the frame with identifier 2, which has been taken.
         server.expect_no_frame(id=1, within=0)
 
 
@@ -264,7 +266,7 @@ def test_expecting_from_now(server, pair):
 
 
 def expectations(server, within):
-    """Returns one call of each expectation, with this time in seconds."""
+    """Returns functions that call each expectation once, with this timeout in seconds."""
     return [
         lambda: server.expect(1, within=within),
         lambda: server.expect_no_frame(1, within=within),
@@ -283,7 +285,7 @@ def test_nobody_waits_a_negative_time(server, within):
 
 
 def test_the_other_identifier_of_the_same_number(server, pair):
-    """can.Message(arbitration_id=0x123) has 29 bits, and a failure names that other identifier."""
+    """can.Message(arbitration_id=0x123) has a 29-bit identifier. The failure message points this out."""
     pair[0].send(can.Message(arbitration_id=0x123, data=[1]))
     server.wait_for(lambda: pair[0].stats().done, WAIT)
     came = "\n00000123 with 29 bits came: give can.Message is_extended_id=False, or expect is_extended_id=True\n"

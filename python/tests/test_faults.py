@@ -44,7 +44,7 @@ def test_rules_in_a_script():
 
 
 def test_a_line_ends_at_its_lf_only(tmp_path):
-    """Only LF ends a line, as in the program, so text after a CR in a comment is no rule."""
+    """As in the program, only LF ends a line. So text after a CR in a comment is not a rule."""
     script = b"# made by hand\rnext 1 lastbit\nnext 2 global bit\n"
     path = tmp_path / "faults"
     path.write_bytes(script)
@@ -60,7 +60,7 @@ def test_a_line_ends_at_its_lf_only(tmp_path):
 
 @pytest.mark.parametrize("script", [b"0 lastbit\r\n", b"next 1 lastbit\r\n", b"# caf\xe9\nnext 1 lastbit\n"])
 def test_a_script_that_the_program_refuses(tmp_path, script):
-    """The package passes the file to the program byte for byte, so both refuse it."""
+    """The package passes the script to the program byte for byte, so both refuse this script."""
     path = tmp_path / "faults"
     path.write_bytes(script)
     fault = "read fault" if b"\xe9" in script else "script line 1: bad line"

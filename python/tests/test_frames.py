@@ -1,4 +1,4 @@
-"""Frames: candump's notation, the messages of a session, and error message frames in words."""
+"""Frames: candump's notation, the messages of a session, and error message frames as text."""
 
 import pytest
 

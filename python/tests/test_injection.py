@@ -1,4 +1,4 @@
-"""Rules that are added while the bus runs: to servers, benches and buses of python-can."""
+"""Rules that are added while the bus runs: to servers, benches and python-can buses."""
 
 import itertools
 import threading
@@ -121,7 +121,7 @@ def test_a_rule_that_names_an_interface_of_another_bus():
 @needs_live
 @pytest.mark.parametrize("when", ["end", "live", "killed"])
 def test_the_rules_on_the_page_of_a_server(tmp_path, when):
-    """The page shows the rules of the script and the rules that were added while the server ran, from any session."""
+    """The page shows the rules from the script, and the rules that any session added while the server ran."""
     options = {"record": "end"} if when == "end" else {"record": "live", "flush": 0}
     server = Server("can0,can1", faults="next 1 lastbit\n", out=tmp_path, observe=(), **options)
     with server, server.bus("can0") as can0, server.bus("can1") as can1:
@@ -133,7 +133,8 @@ def test_the_rules_on_the_page_of_a_server(tmp_path, when):
         sent(0x123, 2)
         server.inject("next 1 id 124 lastbit")
         can1.inject("next 2 id 124:7FE lastbit\nalways good")
-        # Any of the three rules may have been the first, and either of two the second.
+        # Any of the three rules could have decided the first of these attempts, and either of the remaining two the
+        # second.
         sent(0x124, 4)
         server.end_rules()
         sent(0x125, 1)
@@ -189,7 +190,7 @@ def test_what_a_bench_does_not_take():
         bench.inject("always good\n" * 63)
         with pytest.raises(Refused, match="^too many rules$"):
             bench.inject("next 1 lastbit\nnext 1 lastbit")
-        # A text with several rules is added completely, or not at all.
+        # If several rules are added in one call, either all of them are added or none is.
         assert can0.rules_left() == 63
         can0.inject("next 1 lastbit")
         with pytest.raises(Refused, match="^too many rules: next 1 lastbit$"):
@@ -204,7 +205,7 @@ def test_what_a_bench_does_not_take():
 
 @pytest.fixture
 def traffic():
-    """A server, and the bus of an ECU. The ECU sends every 5 ms, and a tester sends every 4 ms."""
+    """A server, and a bus for the ECU. The ECU sends every 5 ms, and a tester sends every 4 ms."""
     with Server("ecu,tester") as server, server.bus("ecu") as ecu, server.bus("tester") as tester:
         tester.send_periodic(message(TESTER), 0.004)
         ecu.send_periodic(message(ECU), 0.005)
@@ -239,7 +240,7 @@ def test_bus_off_on_demand(traffic):
         done = ecu.stats().done
         assert server.bus_off("ecu", timeout=WAIT).state == "off"
         assert server.rules_left() == 0
-        # If the interface is already off, the call returns at once, and leaves no rule.
+        # If the interface is already bus off, the call returns at once and leaves no rule.
         server.bus_off("ecu", timeout=0.1)
         assert server.rules_left() == 0
         ecu.restart()
@@ -258,7 +259,7 @@ def test_bus_off_of_one_with_errors(server):
 
 
 def test_bus_off_between_two_questions(server, monkeypatch):
-    """The returned counters are those of the interface after it went bus off."""
+    """The returned counters are those after the interface went bus off."""
     with server.bus("can0") as can0:
         bus = server._observing().session("can0")
         stats = bus.stats
@@ -289,7 +290,7 @@ def test_bus_off_of_one_that_sends_nothing(server):
             "can1 is active (transmit count 0, receive count 0), and did not go bus off within 0.05 seconds: it sent "
             "nothing in that time\nno frame was seen"
         )
-        # No rule is left that would destroy a frame of a later test on this server.
+        # No rule remains that would destroy a frame in a later test on this server.
         assert server.rules_left() == 0
         server.inject("always good")
         can0.send_periodic(message(0x123), 0.002)
@@ -303,7 +304,7 @@ def test_bus_off_of_one_that_sends_nothing(server):
 
 
 def test_bus_off_that_is_interrupted_leaves_no_rule(server, monkeypatch):
-    """An interrupted bus_off() leaves no rule. The interrupt may come from Ctrl-C, or from the timeout of a test."""
+    """An interrupted bus_off() leaves no rule. The interrupt may be caused by Ctrl-C or by the timeout of a test."""
 
     def interrupted(predicate, timeout):
         assert predicate() is None and server.rules_left() == 1
@@ -316,9 +317,10 @@ def test_bus_off_that_is_interrupted_leaves_no_rule(server, monkeypatch):
 
 
 def test_bus_off_leaves_no_rule_where_a_line_of_the_script_helps():
-    """Three attempts fail by numbered lines of the script. The three unused verdicts of the rule are removed."""
+    """Numbered script lines make three attempts fail. So three verdicts of the rule remain unused, and they are
+    removed."""
     with Server("can0,can1", faults=Faults().destroyed([0, 1, 2])) as server, server.bus("can0") as can0:
-        # The frame is sent after the rule for 32 attempts has been added.
+        # The timer sends the frame after the rule for 32 attempts has been added.
         sends = threading.Timer(0.3, can0.send, [message(0x123)])
         sends.start()
         server.bus_off("can0", timeout=WAIT)

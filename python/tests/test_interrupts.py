@@ -1,5 +1,5 @@
-"""Exceptions of signal handlers, such as those of Ctrl-C and pytest-timeout, at any time in a call: the bus works on, and can be
-ended."""
+"""Exceptions from signal handlers, such as those for Ctrl-C and pytest-timeout, at any time during a call: afterwards
+the bus still works and can be shut down."""
 
 import os
 import subprocess
@@ -12,8 +12,8 @@ from common import WAIT
 import canbusd
 from canbusd.server import Server
 
-# A program in which a timer interrupts a client again and again. After each interrupt the bus must still match answers to calls,
-# and at the end it must shut down. The last line has the number of interrupted calls.
+# A program in which a timer repeatedly interrupts a client. After every interrupt the bus must still match answers to
+# calls, and at the end it must shut down. The last output line is the number of interrupted calls.
 CLIENT = """
 import faulthandler, random, signal, sys, threading, time
 import can
@@ -83,7 +83,8 @@ def test_an_interrupt_leaves_the_bus_in_step(call, reader):
     assert (done.returncode, done.stdout, done.stderr) == (0, "in step\n", "")
 
 
-# A program in which Ctrl-C comes while the folder of an unused run is removed. A background job of a shell ignores the signal.
+# A program that is interrupted by Ctrl-C while it removes the folder of an unused run. A background job of a shell
+# would ignore the signal.
 FINALIZED = """
 import os, shutil, signal, time
 from canbusd import Bench

@@ -1,4 +1,4 @@
-"""Ends of ISO-TP: the frames that they send, by ISO 15765-2, and failed transfers."""
+"""ISO-TP endpoints: the frames that they send according to ISO 15765-2, and failed transfers."""
 
 import importlib.util
 import re
@@ -17,7 +17,7 @@ from common import WAIT
 
 
 def is_there(library):
-    """Returns whether this library is installed."""
+    """Returns whether this ISO-TP library is installed."""
     if library == "canbusd":
         return True
     if library == "can-isotp":
@@ -30,7 +30,7 @@ def is_there(library):
 
 @pytest.fixture(params=["can-isotp", "canbusd-run", "canbusd"])
 def library(request):
-    """The ISO-TP libraries, one after the other. A test is skipped if its library is not installed."""
+    """The ISO-TP libraries, one after another. A test is skipped if its library is not installed."""
     if not is_there(request.param):
         pytest.skip(f"no {request.param}; Debian 12 has no package of can-isotp")
     return request.param
@@ -45,7 +45,7 @@ def car():
 
 @pytest.fixture
 def ends(car, library):
-    """The ends of the ECU and of the tester."""
+    """The ISO-TP endpoints of the ECU and the tester."""
     with car.isotp("ecu", tx=0x7E8, rx=0x7E0, library=library) as ecu:
         with car.isotp("tester", tx=0x7E0, rx=0x7E8, library=library) as tester:
             yield ecu, tester
@@ -62,8 +62,8 @@ def test_what_is_on_the_bus(car, ends):
     assert tester.recv(timeout=WAIT) == VIN
     assert ecu.recv(timeout=0) is None
     log = [(message.channel, f"{message.arbitration_id:X}", bytes(message.data)) for message in car.log()]
-    # The tester sends a single frame. The ECU answers with a first frame for 20 bytes and, after the flow control, with the
-    # consecutive frames 1 and 2. Padding is not compared.
+    # The tester sends a single frame. The ECU answers with a first frame that announces 20 bytes and, after the flow
+    # control, with the consecutive frames 1 and 2. Padding is not compared.
     wanted = [
         ("tester", "7E0", b"\x03\x22\xf1\x90"),
         ("ecu", "7E8", b"\x10\x14" + VIN[:6]),
@@ -95,7 +95,7 @@ def test_identifiers_of_29_bits(car, library):
 
 def test_bus_off_in_the_middle_of_a_transfer(car, ends):
     ecu, tester = ends
-    # The first two frames are sent: a first frame and a consecutive frame. The later attempts fail.
+    # The first two frames, a first frame and a consecutive frame, are sent successfully. The later attempts fail.
     car.inject(Faults().next(32, sender="ecu", skip=2).destroyed())
     said = "" if ecu.library == "can-isotp" else "^ecu is bus off$"
     with pytest.raises(IsoTpError, match=said):
@@ -111,7 +111,7 @@ def test_bus_off_in_the_middle_of_a_transfer(car, ends):
 
 def test_nobody_answers(car, library):
     with car.isotp("tester", tx=0x7E0, rx=0x7E8, library=library) as tester:
-        # A single frame needs no answer, but a first frame needs flow control.
+        # A single frame requires no answer, but a first frame requires flow control.
         tester.send(b"\x3e\x00")
         said = "" if tester.library == "can-isotp" else "^the other end sent no flow control in time, or "
         with pytest.raises(IsoTpError, match=said):
@@ -203,7 +203,8 @@ def test_neither_is_there(car, monkeypatch):
         car.isotp("tester", tx=0x7E0, rx=0x7E8, library="can-isotp")
 
 
-#: Options, with the frames that carry 3 bytes to the ECU and 20 bytes back, by ISO 15765-2. `..` marks bytes that are not compared.
+#: Options, and the frames by which 3 bytes are sent to the ECU and 20 bytes back, according to ISO 15765-2. `..` marks
+#: bytes that are not compared.
 OPTIONS = [
     (
         {"padding": 0xAA},
@@ -254,7 +255,8 @@ def test_the_distance_of_consecutive_frames(car, stmin, seconds):
             assert ecu.recv(timeout=WAIT) == bytes(60)
     moments = [message.timestamp for message in car.log() if message.data[0] >> 4 == 2]
     assert len(moments) == 8
-    # The sender begins its pause after the frame before has been on the bus, so a busy machine never makes the pause shorter.
+    # The sender begins its pause after the previous frame has been on the bus. So a busy machine never makes the pause
+    # shorter.
     assert all(after - before >= seconds - 1e-6 for before, after in zip(moments, moments[1:]))
 
 
@@ -284,14 +286,14 @@ def test_faults_need_python(car, library):
 def test_bus_off_while_a_message_comes(car):
     with car.isotp("ecu", tx=0x7E8, rx=0x7E0, library="canbusd") as ecu:
         with car.isotp("tester", tx=0x7E0, rx=0x7E8, library="canbusd") as tester:
-            # The flow control is destroyed 32 times, so the tester goes bus off.
+            # The flow control frame is destroyed 32 times, so the tester goes bus off.
             car.inject(Faults().next(32, sender="tester").destroyed())
             with pytest.raises(IsoTpError):
                 ecu.send(bytes(100), timeout=WAIT)
             car.expect_state("tester", "off", within=WAIT)
             with pytest.raises(IsoTpError):
                 tester.recv(timeout=WAIT)
-            # A flow control that can't be sent ends only its own transfer, and the next one works.
+            # If a flow control frame can't be sent, only its own transfer fails. The next transfer works.
             with car.bus("tester") as bus:
                 bus.restart()
             ecu.send(VIN, timeout=WAIT)

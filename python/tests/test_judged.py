@@ -1,4 +1,4 @@
-"""Gaps, orders and changes of frames. The frames are written in these tests, so each time is exact."""
+"""Gaps, sequences and changes of frames. These tests define the frames themselves, so all times are exact."""
 
 import pytest
 
@@ -11,7 +11,8 @@ from canbusd.frames import Frame
 
 
 def frames(*lines):
-    """Returns received frames. A line is `0.100000 123 1122`: time, identifier and data. `error` may come before the time."""
+    """Returns received frames from lines such as `0.100000 123 1122`: time, identifier and data. The word `error` may
+    precede the time."""
     received = Received([["a"]], ["a"])
     for line in lines:
         *kind, moment, identifier, data = line.split(" ")
@@ -53,10 +54,10 @@ LINES = ["1.0 100 01", "1.1 101 ", "1.2 100 02", "1.3 700 ", "1.4 102 ", "1.5 10
         ([0x100, 0x102], None, ["100#01", "102#"], None),
         ([0x102, 0x101], None, ["102#", "101#"], None),
         ([0x101, 0x100, 0x101], None, ["101#", "100#02", "101#"], None),
-        # There are too few frames, or the frames are in another order.
+        # There are too few frames, or they are in the wrong order.
         ([0x102, 0x100], None, ["102#"], None),
         ([0x103], None, [], None),
-        # A forbidden frame counts only after the first step, and before the last.
+        # A forbidden frame counts only between the first and the last step.
         ([0x100, 0x101], (), ["100#01", "101#"], None),
         ([0x101, 0x100, 0x700], (), ["101#", "100#02", "700#"], None),
         ([0x100, 0x102], (), ["100#01"], "101#"),
@@ -94,13 +95,13 @@ def test_the_first_change():
 
 
 def test_the_first_change_of_a_signal(car):
-    """gear is the low three bits of byte 3. Changes in other bits of the message do not count."""
+    """The signal gear is the low three bits of byte 3. Changes in the message's other bits do not count."""
     lines = ["1.0 123 0000000300000000", "1.1 123 1111110311110000", "1.2 123 0000000200000000"]
     assert changes(None, *lines, signal="gear", database=car)[:2] == ("Drive", "Neutral")
     assert changes(None, *lines[:2], signal="Engine.gear", database=car) is None
 
 
-# DRIVES was worked out by hand in test_signals: speed 120.5, temperature 20, gear Drive, torque -10.
+# DRIVES was computed by hand in test_signals: speed 120.5, temperature 20, gear Drive, torque -10.
 @pytest.mark.parametrize(
     "conditions, is_so",
     [
@@ -127,7 +128,7 @@ def test_values_with_names(car):
     frame = Frame.parse(DRIVES)
     assert Wanted(signal="gear", equals="Drive", database=car).matches(frame)
     assert not Wanted(signal="gear", equals="Park", database=car).matches(frame)
-    # A value with a name is neither above nor below a number.
+    # A value that has a name is neither above nor below a number.
     assert not Wanted(signal="gear", above=0, database=car).matches(frame)
 
 
@@ -174,7 +175,7 @@ def test_what_is_looked_for_in_words(car, arguments, text):
         ({"id": "Engine"}, "id is a number, such as 0x123, not 'Engine'; names .* need a database"),
         ({"id": 1.5}, "id is a number, such as 0x123, or the name of a message, not 1.5"),
         ({"id": True}, "id is a number, .* not True"),
-        # Identifiers in messages are hexadecimal, so a text of digits is refused.
+        # Identifiers in messages are hexadecimal, so a string of digits is refused.
         ({"id": "101"}, "id is a number, 0x101, or the name of a message, not '101'"),
         ({"id": "7FE"}, "id is a number, 0x7FE, or the name of a message, not '7FE'"),
         ({"id": 0x1FFFFFFFF}, "id is an identifier of 11 or 29 bits, from 0 to 1FFFFFFF, not 0x1ffffffff"),
@@ -199,7 +200,7 @@ def test_names_that_the_database_does_not_have(car):
         Wanted("Motor", database=car)
     with pytest.raises(DatabaseError, match="^no signal Engine.sped; there are speed"):
         Wanted(signal="Engine.sped", database=car)
-    # The messages are Engine, Pages and Request. The most similar signal is named first.
+    # The messages are Engine, Pages and Request. The most similar signal name is listed first.
     others = "temperature, gear, torque, page, left, right, service"
     with pytest.raises(DatabaseError, match=f"^no signal sped; there are speed, {others}$"):
         Wanted(signal="sped", database=car)
@@ -242,7 +243,7 @@ def test_what_can_never_be(car, arguments, text):
 
 
 def test_what_may_be_though_it_is_odd(car):
-    """A limit outside the signal's range, a number without a name, and a number as a text are allowed."""
+    """A limit outside the signal's range, a value without a name, and a number in a string are allowed."""
     assert not Wanted(signal="speed", above=99999, database=car).matches(Frame.parse(DRIVES))
     assert Wanted(signal="gear", equals=6, database=car).matches(Frame.parse("123#0000000600000000"))
     assert Wanted(signal="speed", equals="120.50", database=car).matches(Frame.parse(DRIVES))

@@ -1,4 +1,4 @@
-"""Logs and records that are read while they grow, and servers that write them during the run."""
+"""Logs and records that are read while they grow, and servers that write them while they run."""
 
 import os
 import signal
@@ -30,11 +30,11 @@ def test_lines_are_taken_once(tmp_path):
     assert list(file.lines()) == ["one"] and list(file.lines()) == []
     append(path, "o\n\nfour")
     assert list(file.lines()) == ["two", ""]
-    # A reader that stops early gets the remaining lines at the next call.
+    # A reader that stopped early returns the remaining lines on the next call.
     append(path, "\nfive\n")
     assert next(file.lines()) == "four"
     assert list(file.lines()) == ["four", "five"]
-    # On a full disk, the writer cuts off a partial line.
+    # When the disk is full, the writer removes an incomplete line.
     append(path, "to")
     assert list(file.lines()) == []
     os.truncate(path, path.stat().st_size - 2)
@@ -64,8 +64,8 @@ def test_a_log_that_grows(tmp_path):
     ids=["1-4", "50-4", "1000-4", "7-restarted", "50-restarted", "1000-restarted"],
 )
 def test_a_record_that_grows(tmp_path, text, size):
-    """The record grows by this many bytes at a time, and is renamed before the last step. Each step starts the program twice. The
-    longer record has similar lines, which a step of 7 bytes cuts at every place."""
+    """The record grows by `size` bytes at a time, and is renamed after the last step. Every step starts the program
+    twice. The longer record has similar lines, so steps of 7 bytes cut them at every position."""
     growing, path = tmp_path / "can0.rec.new", tmp_path / "can0.rec"
     growing.write_text(text[: text.index("open")])
     live = LiveRecord(path, ["a", "b"])
@@ -79,7 +79,7 @@ def test_a_record_that_grows(tmp_path, text, size):
     whole = live.record()
     assert whole == parse_record(text.encode(), names="a,b") and not whole.is_cut
     assert (whole.attempts, left_by(path, "live")) == (live.attempts(), path)
-    # A record that was returned earlier does not change.
+    # A record that was returned earlier is not changed.
     assert seen.lines == [] and seen.is_cut
 
 
@@ -169,7 +169,7 @@ def test_a_server_is_looked_at_while_it_runs(tmp_path):
         assert [attempt.outcome for attempt in server.attempts("ecu")] == ["lastbit", *["done"] * 100]
         server.wait_for(lambda: len(server.log("ecu")) == 101, timeout=WAIT)
         assert [one.arbitration_id for one in server.log("tester")] == [0x100, *range(0x100, 0x164)]
-        # After both sessions have closed, the record gets no further entries.
+        # After both sessions have been closed, no further entries are added to the record.
         record = server.wait_for(lambda: closed(server.record("ecu"), 2), timeout=WAIT)
         assert record.is_cut and record.names == ("ecu", "tester") and server.attempts("ecu") == record.attempts
         growing = {f"{name}.{kind}" for name in ("car0", "ecu") for kind in ("log", "rec.new", "rec.faults.new")}
@@ -190,7 +190,7 @@ def attempts_of(server, frame, outcome):
 
 
 def closed(record, count):
-    """Returns the record if exactly this many of its sessions are closed, otherwise None."""
+    """Returns the record if exactly `count` of its sessions are closed, and otherwise None."""
     return record if sum(line.startswith("close ") for line in record.lines) == count else None
 
 
@@ -218,7 +218,7 @@ def test_what_a_killed_server_leaves(tmp_path, by):
     assert audit((tmp_path / "can0.rec.new").read_bytes(), cut=True) == server.audit()["can0"]
     page = server.report()
     assert page == tmp_path / "can0.html" and page.read_text(encoding="utf-8").endswith("</html>\n")
-    # The next server renames the file, and keeps it.
+    # The next server renames this file and keeps it.
     with Server("can0,can1", record="live", out=tmp_path, observe=()) as server:
         assert server.record().lines == []
     assert "can0.rec.cut" in server.said and read_record(tmp_path / "can0.rec.cut", cut=True).lines == record.lines

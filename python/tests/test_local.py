@@ -1,4 +1,4 @@
-"""LocalBus is a bus inside the process, by libcanbusd. The proved program audits its records, and has no other part in them."""
+"""LocalBus is a bus inside the process that uses libcanbusd. The proved program only audits the records of the bus."""
 
 import random
 import threading
@@ -80,7 +80,7 @@ def test_refusals_have_their_texts():
 
 @pytest.mark.parametrize("rates", [{}, {"bitrate": 500_000}, {"bitrate": 500_000, "data_bitrate": 2_000_000}], ids=str)
 def test_random_calls_leave_a_record_that_the_audit_takes(rates, tmp_path):
-    """The audit accepts the record of random calls, so each reply is the one that the program gives for the same call."""
+    """The audit accepts the record of random calls. So every reply is the same as the program's reply to that call."""
     draw = random.Random(91)
     names = ["can0", "can1", "can2"]
     with LocalBus(names, ack="peers", report=True, auto_restart=5, **rates) as bus:
@@ -121,7 +121,7 @@ def attempts_in(record):
 
 
 def test_attempts_are_those_of_a_bench(tmp_path):
-    """With the same frames and the same fault, the attempts and their times are those of the program's bench."""
+    """If the frames and the fault are the same, the attempts and their times are the same as on the program's bench."""
     faults, rates = "next 2 lastbit", {"bitrate": 500_000, "data_bitrate": 2_000_000}
     frames = [Frame(number, bytes(number)) for number in range(5)] + [
         Frame(9, bytes(48), is_fd=True, bitrate_switch=True)

@@ -1,4 +1,4 @@
-"""Logs for other tools: independent programs read the output of `canbusd convert`."""
+"""Logs for other tools: independent programs read the files that `canbusd convert` writes."""
 
 import shutil
 import subprocess
@@ -14,7 +14,7 @@ from canbusd.frames import Frame
 from forked import forked
 
 TOOL = Path(__file__).resolve().parents[2] / "tools" / "candump2bench"
-# A log with one frame of each kind, each with its time and its interface.
+# A log with one frame of every kind. Each line has a time and an interface.
 LOG = """\
 (1795910922.386502) ecu 123#1122
 (1795910922.386602) tester 124#R4
@@ -33,7 +33,7 @@ def log(tmp_path):
 
 
 def convert(*words):
-    """Runs `canbusd convert`, and returns the status and the output."""
+    """Runs `canbusd convert`, and returns the exit status, the output and the error output."""
     return forked("convert", *words)
 
 
@@ -53,7 +53,7 @@ def test_asc_there_and_back(log, tmp_path):
     assert convert(log, tmp_path / "run.asc") == (0, "5 frames; channels: 1 ecu, 2 tester\n", "")
     found = list(read_entries(tmp_path / "run.asc", ["ecu", "tester"]))
     wanted = list(read_entries(log))
-    # ASC does not have the classes of error message frames. All times in ASC are too early by the same amount.
+    # ASC can't store the classes of error message frames. All times in the ASC file are too early by the same amount.
     assert [(name, str(frame)) for name, frame in found if not frame.is_error_frame] == [
         (name, str(frame)) for name, frame in wanted if not frame.is_error_frame
     ]
@@ -103,13 +103,13 @@ def test_any_of_them_as_input_of_the_bench(log, tmp_path, ending):
         "feed 1 < sendfdx 1 12345678 2 11 22 >",
         "feed 2 < send 7FF 8 01 02 03 04 05 06 07 08 >",
     ]
-    # An error message frame is sent by no node, so it is not converted.
+    # An error message frame is not sent by a node, so it is not converted.
     assert (done.returncode, done.stderr.count("\n")) == (1, 1)
     assert f"{path}:4: an error message frame" in done.stderr
 
 
 def test_a_record_in_place_of_a_log(tmp_path):
-    """A command that wants a log refuses a record, and names the log of that record."""
+    """A command that expects a log refuses a record, and its message points to the log of the record."""
     with Bench("ecu", out=tmp_path):
         pass
     record, said = tmp_path / "ecu.rec", "this is a record; take its log, which has the ending .log"

@@ -1,4 +1,5 @@
-"""A program that listens at the address may be no canbusd server. None of its control characters reaches a terminal."""
+"""The program at the server's address may not be canbusd. None of the control characters that it sends reaches a
+terminal."""
 
 import contextlib
 import re
@@ -15,10 +16,11 @@ from forked import forked
 
 HERE = Path(__file__).parent
 WAIT = 60
-# Control characters in 7 and 8 bits, which colour, clear, rename and overwrite the screen of a terminal.
+# 7-bit and 8-bit control characters that change colours, clear the screen, set the title and overwrite text on a
+# terminal.
 EVIL = "\x1b[31m\x1b[2J\x1b]0;title\x07\x9b31m\x00\x08\x7f\r"
 GREETING, OK = "< hi >", "< ok >"
-#: False answers, by the first word of a message. `*` stands for any other word.
+#: The false answers, by the first word of the client's message. `*` stands for any other word.
 LIES = {
     "greeting": {"": f"{EVIL} SSH-2.0 {EVIL}\n"},
     "refused": {"": f"< error {EVIL} >"},
@@ -49,7 +51,7 @@ COMMANDS = {
 
 
 def answer(connection, lies):
-    """Sends a greeting, and answers each message until the other side disconnects."""
+    """Sends a greeting, and answers every message until the other side disconnects."""
     connection.settimeout(WAIT)
     with contextlib.suppress(OSError), connection:
         connection.sendall(lies.get("", GREETING).encode("latin-1"))
@@ -66,7 +68,7 @@ def answer(connection, lies):
 
 @contextlib.contextmanager
 def liar(lies):
-    """The address of a server that gives these false answers."""
+    """The address of a server that sends these false answers."""
     with socket.create_server(("127.0.0.1", 0)) as listening:
 
         def serve():
@@ -85,7 +87,8 @@ def liar(lies):
 
 
 def shown(address, words):
-    """Returns the output of a program on a terminal. A program that does not end is killed."""
+    """Returns the output of a program, including its error output. A program that does not end within 15 seconds is
+    terminated."""
     child = subprocess.Popen(
         words, env={**environment(), "CANBUSD_ADDRESS": address}, stdin=subprocess.DEVNULL, stdout=subprocess.PIPE,
         stderr=subprocess.STDOUT,
@@ -102,7 +105,7 @@ def shown(address, words):
 def test_no_control_characters(name, lie):
     with liar(LIES[lie]) as address:
         env = {**environment(), "CANBUSD_ADDRESS": address}
-        # A command that does not end by itself is killed after 15 seconds.
+        # A command that does not end by itself within 15 seconds is killed.
         _, written, errors = forked(*COMMANDS[name], env=env, longest=15)
     written += errors
     assert "Traceback" not in written
@@ -111,7 +114,7 @@ def test_no_control_characters(name, lie):
 
 @pytest.mark.parametrize("lie", ["greeting", "refused", "names", "other names"])
 def test_canbusd_run(lie):
-    """Messages of canbusd-run end at a NUL."""
+    """canbusd-run's messages end at a NUL, so NULs are removed from the false answers."""
     with liar({word: said.replace("\0", "") for word, said in LIES[lie].items()}) as address:
         written = shown(address, [find_program("canbusd-run"), "--interfaces", "can1", "--", "true"])
     assert written.startswith("canbusd-run: ") and not re.findall(r"[^\n\t -~]", written), written

@@ -1,4 +1,4 @@
-"""Mistakes of users. The messages name the place, the value and the remedy."""
+"""Mistakes that users make. The error messages name the location, the value and the remedy."""
 
 import contextlib
 from pathlib import Path
@@ -10,7 +10,7 @@ import canbusd
 from canbusd import Bench, Server, ServerError
 from common import WAIT, message
 
-# Each mistake has its error, and words of the message in order.
+# Each entry is the code of a mistake, the exception class, and parts of the error message in order.
 WITHOUT_A_RUN = [
     # Servers and benches.
     ("Server('can0,can1', pace=0)", TypeError, "Server has no argument pace (pace_ms?); there are faults, ack,"),
@@ -146,7 +146,7 @@ OF_A_SERVER = [
         ValueError,
         "interface is an interface of the server, one of can0, can1,",
     ),
-    # These names are from other libraries, or from other classes of the package.
+    # These names belong to other libraries or to other classes in the package.
     ("server.Faults()", AttributeError, "hides the module; `from canbusd import Faults`"),
     ("server.recv()", AttributeError, "Server has no recv: server.bus('can0').recv(timeout=1)"),
     ("server.send(1)", AttributeError, "Server has no send: server.bus('can0').send("),
@@ -258,7 +258,7 @@ OF_A_REST_BUS = [
 
 
 def told(code, kind, words, **names):
-    """Checks that the code raises this kind of error, and that its message has these words in order."""
+    """Checks that the code raises this exception class, and that the message contains these strings in order."""
     everything = {"can": can, "canbusd": canbusd, **{name: getattr(canbusd, name) for name in canbusd.__all__}, **names}
     with pytest.raises(kind) as fault:
         eval(code, everything)
@@ -278,7 +278,7 @@ def server():
 
 
 def each(cases):
-    """Returns the decorator that runs a test with each of these mistakes."""
+    """Returns a decorator that runs a test with each of these mistakes."""
     return pytest.mark.parametrize(
         "code, kind, words", [(code, kind, words) for code, kind, *words in cases], ids=ids(cases)
     )

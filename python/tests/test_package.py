@@ -1,4 +1,5 @@
-"""The package as Python finds it: entry points work without an installation, and the version is the same everywhere."""
+"""The package as Python finds it: entry points work without an installation, and the version number is the same
+everywhere."""
 
 import ast
 import configparser
@@ -21,7 +22,7 @@ tomllib = pytest.importorskip("tomllib")
 CLONE = Path(__file__).resolve().parents[2]
 SOURCES = CLONE / "python" / "src"
 (INFO,) = SOURCES.glob("canbusd-*.dist-info")
-# Only PYTHONPATH is set, as in README.
+# Only PYTHONPATH is set, as README describes.
 ENVIRONMENT = {**os.environ, "PYTHONPATH": str(SOURCES), "PYTHONDONTWRITEBYTECODE": "1"}
 TEST = """
 import can, pytest
@@ -54,7 +55,7 @@ def test_the_metadata_of_a_clone_is_that_of_the_wheel():
 
 
 def public_names():
-    """Yields the modules and names that documents, entry points and launchers import."""
+    """Yields the modules and names that are imported by documents, entry points and launchers."""
     texts = [*CLONE.glob("*.md"), *CLONE.glob("docs/*.md"), *CLONE.glob("examples/**/*.py"), *CLONE.glob("tools/*")]
     for path in filter(Path.is_file, texts):
         text = path.read_text(encoding="utf-8")
@@ -65,7 +66,7 @@ def public_names():
     yield from (tuple(f"{place}:".split(":")[:2]) for table in tables for place in table.values())
 
 
-#: Modules that users import. A document may import none of them.
+#: Modules that users may import, even if no document imports them.
 PUBLIC = """
     bench bus candump2bench commands e2e faults frames isotp programs pytest_plugin record replay rest_bus rules server shapes
     signals steps strategies uds virtual
@@ -85,7 +86,8 @@ def test_public_paths_can_be_imported():
         assert not name or hasattr(found, name), f"{module} has no {name}"
 
 
-#: The parts of the package in order, each with its top modules for users. A part imports only itself and earlier parts.
+#: The parts of the package in order, each with its top-level modules for users. A part imports only itself and earlier
+#: parts.
 LAYERS = """
     _text+_words+_python_can+_calls+_whole_file+_placement+_crc+virtual+frames+rules+faults+steps+_reports
     _session
@@ -108,7 +110,7 @@ LAYERS = """
 
 
 def imported(body):
-    """Returns the names of the modules that this code imports when it is imported."""
+    """Returns the names of the modules that are imported when this code is imported."""
     for statement in body:
         if isinstance(statement, ast.Import):
             yield from (alias.name for alias in statement.names)
@@ -120,7 +122,7 @@ def imported(body):
 
 
 def package_imports():
-    """Returns the modules of the package, each with the package's modules that it imports when it is imported."""
+    """Returns the modules of the package. Each is mapped to the package's modules that it imports."""
     paths = (SOURCES / "canbusd").rglob("*.py")
     names = {str(path.relative_to(SOURCES).with_suffix("")).replace("/", "."): path for path in paths}
     trees = {name.removesuffix(".__init__"): ast.parse(path.read_bytes()) for name, path in names.items()}
@@ -141,12 +143,12 @@ def test_layers():
         number, room = rooms[name.split(".")[1]]
         for layer, other_room, other in ((*rooms[other.split(".")[1]], other) for other in others):
             assert layer < number or other_room == room, f"{name} imports {other}, which is of a layer above it"
-    # prepare() raises CycleError if modules import one another.
+    # prepare() raises CycleError if there is a cycle of imports.
     graphlib.TopologicalSorter(found).prepare()
 
 
 def modules_after(statement):
-    """Returns the names of the modules that Python has loaded after a statement."""
+    """Returns the names of all modules that are loaded after a statement."""
     asks = f"{statement}; import sys; print(*sys.modules)"
     return set(subprocess.check_output([sys.executable, "-c", asks], env=ENVIRONMENT, text=True).split())
 
@@ -185,7 +187,7 @@ def test_a_clone_without_an_installation(tmp_path, words):
 
 
 def test_an_older_python():
-    """On Python 3.8 the package reports the old version, and does not fail in the middle of a module."""
+    """On Python 3.8 the package reports that this version is too old, instead of failing in the middle of a module."""
     asks = "import sys; sys.version_info = (3, 8, 19, 'final', 0); import canbusd"
     done = subprocess.run([sys.executable, "-c", asks], env=ENVIRONMENT, capture_output=True, text=True, check=False)
     assert done.stderr.endswith("ImportError: canbusd needs Python 3.9 or later, and this is 3.8\n")

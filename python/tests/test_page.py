@@ -1,4 +1,5 @@
-"""The page of a run in a browser: keys, mouse, words, colours and widths. The tests are skipped without Chromium."""
+"""The page of a run in a browser: keyboard, mouse, text, colours and widths. The tests are skipped if Chromium is not
+installed."""
 
 import base64
 import csv
@@ -15,11 +16,11 @@ from canbusd._page.report import page
 from canbusd.record import parse_record
 
 pytestmark = pytest.mark.skipif(PROGRAM is None, reason="no chromium on the PATH")
-# A point in the lane of the first node, 300 pixels from the left edge.
+# A point in the first node's lane, 300 pixels from the left edge.
 PLACE = "(() => { const box = at('lanes').getBoundingClientRect(); return [box.left + 300, box.top + 12]; })()"
 ATTEMPT = "attemptOf[view.step]"
 SPAN = "view.to - view.from"
-# The number of colours in the bands of states of both nodes at step 32.
+# For each node, the number of colours in its state band at step 32.
 COLOURS = """(() => {
   const left = placeOf(plotted(), axis.start[32]) + 3, pen = at('lanes').getContext('2d');
   const all = new Uint32Array(pen.getImageData(left, 0, 8, at('lanes').height).data.buffer);
@@ -28,7 +29,7 @@ COLOURS = """(() => {
     return new Set(all.subarray(top * 8, (top + 6) * 8)).size;
   });
 })()"""
-# The texts on the time axis.
+# The strings that are drawn on the time axis.
 WRITTEN = """(() => {
   const said = [], pen = CanvasRenderingContext2D.prototype, write = pen.fillText;
   pen.fillText = function (text, ...more) { said.push(text); write.call(this, text, ...more); };
@@ -36,15 +37,16 @@ WRITTEN = """(() => {
   pen.fillText = write;
   return said;
 })()"""
-# Elements that are cut off at the right edge of the page, or of a box that can't be scrolled and shows no sign of the cut.
+# Elements that are cut off at the right edge of the page, or at the edge of a box that neither scrolls nor shows that
+# something is cut off.
 CUT = """[...document.querySelectorAll('main *, header *')].filter(one => {
   const style = getComputedStyle(one), isSigned = style.textOverflow === 'ellipsis' || style.webkitLineClamp !== 'none';
   return one.checkVisibility() && one.scrollWidth > one.clientWidth + 1 && style.overflowX === 'hidden' && !isSigned
     || one.checkVisibility() && one.getBoundingClientRect().right > innerWidth + 1 && !one.closest('.rolling, pre');
 }).map(one => one.outerHTML.slice(0, 80))"""
-# Rows of lists that are wider than their list.
+# The number of list rows that are wider than their list.
 WIDE = "[...document.querySelectorAll('.row')].filter(one => one.checkVisibility() && one.scrollWidth > one.clientWidth).length"
-# The texts whose contrast with the background, as WCAG 2 defines it, is below 4.5.
+# The elements whose text contrast with the background, as defined by WCAG 2, is below 4.5.
 WEAK = """(() => {
   const channels = colour => colour.match(/[\\d.]+/g).map(Number);
   const luminance = ([red, green, blue]) => {
@@ -68,19 +70,19 @@ WEAK = """(() => {
   }
   return weak;
 })()"""
-# The marked rows of the current list that are in view.
+# The selected rows of the current list that are in view.
 MARKED = """[...lists[tab].body.querySelectorAll('[aria-selected]')].filter(row => {
   const box = lists[tab].box.getBoundingClientRect(), one = row.getBoundingClientRect();
   return one.top >= box.top && one.bottom <= box.bottom + 1;
 }).map(row => row.firstChild.textContent)"""
-# The outcomes in the list of attempts. An outcome that is not completely visible in its row is null.
+# The outcomes in the list of attempts. If an outcome is not completely visible in its row, it is null.
 OUTCOMES = """[...lists[tab].body.children].map(row => {
   const box = row.getBoundingClientRect(), words = row.querySelector('.mark').parentElement;
   const one = words.getBoundingClientRect();
   const isSeen = one.right <= box.right + 1 && one.bottom <= box.bottom + 1 && one.left >= box.left;
   return isSeen ? words.textContent : null;
 })"""
-# The ends of the lanes' names. An end that is not visible is null.
+# The last characters of each lane's name, or null if they are not visible.
 ENDS = """lanes.map((lane, k) => {
   const name = at('gutter').children[k + 1].querySelector('.name'), end = name.lastElementChild;
   return end.getBoundingClientRect().right <= name.getBoundingClientRect().right + 1 ? end.textContent : null;
@@ -90,7 +92,7 @@ TABS = ["tab-events", "tab-attempts", "tab-items", "tab-nodes", "tab-sockets", "
 
 @pytest.fixture
 def opened(browser, tmp_path):
-    """A function that opens the page of a run, with these bit rates of its bus if there are any."""
+    """A function that opens the page of a run, optionally with the bit rates of its bus."""
 
     def open_page(run, names=NAMES, rates=None, comparison=None):
         path = tmp_path / "run.html"
@@ -105,7 +107,7 @@ def opened(browser, tmp_path):
 
 @pytest.fixture
 def shown(opened):
-    """The page of a run in which can0 goes bus off in attempt 31."""
+    """The page of a run in which can0 goes bus off during attempt 31."""
     return opened(bus_off())
 
 
@@ -127,7 +129,7 @@ def test_keys(shown):
     assert after("E") == 11
     assert after("ArrowRight") == 12
     assert after("F") == 11
-    # The address changes after the key is released.
+    # The address is updated after the key is released.
     shown.until("location.hash === '#attempt=11'")
     assert after("End", "ArrowLeft") and shown.run("titleOf(view.step)") == "2 idle"
     whole = shown.run(SPAN)
@@ -164,7 +166,7 @@ def test_mouse(shown):
     shown.mouse("mouseMoved", x, y)
     said = shown.run("at('tip').textContent")
     attempt = int(said.split()[1])
-    # Each attempt up to this one has added 8 to the transmit count.
+    # Every attempt so far has added 8 to the transmit error counter.
     assert f"can0 {8 * (attempt + 1)}/0, can1 0/{attempt + 1}" in said
     shown.mouse("mousePressed", x, y, button="left", clickCount=1)
     shown.mouse("mouseReleased", x, y, button="left", clickCount=1)
@@ -172,7 +174,7 @@ def test_mouse(shown):
 
 
 def show_each(shown, width, tabs):
-    """Shows each list in turn, and checks that nothing is cut off or wider than the page, and that every text is legible."""
+    """Shows each list in turn. Checks that nothing is cut off or wider than the page, and that all text is legible."""
     for name in tabs:
         shown.run(f"showTab('{name}')")
         shown.settle()
@@ -219,7 +221,7 @@ def test_idle_attempts_are_a_step_and_a_node_that_is_off_is_hatched(shown):
 
 
 def test_a_node_that_is_down(opened):
-    """A node that is down has another hatching than a node that is bus off, and the texts about its states say `down`."""
+    """A node that is down is hatched differently from a node that is bus off, and its state is described as `down`."""
     shown = opened(replay_of(EVENTS, 100), NAMES_OF_EVENTS)
     down = "ecu goes down: it takes no part until it is up, and its transmit queue is empty."
     assert [shown.run(f"sentence({step})") for step in (1, 8)] == [
@@ -251,13 +253,13 @@ def test_sixteen_nodes_of_which_one_sends(opened):
     names = [f"can{number}" for number in range(16)]
     record = parse_record("\n".join([*lines, f"end {len(lines) - 2}", ""]).encode(), names=names)
     shown = opened(record.replay, names)
-    # The axis has room for the identifiers of frames, and after zooming in also for the data.
+    # The axis has room for the identifiers of frames, and for their data after zooming in.
     written = shown.run(WRITTEN)
     assert written.count("101") == 10 and "101#0102030405060700" not in written
     for key in ["Home", "+"]:
         shown.key(key)
     assert "101#0102030405060700" in shown.run(WRITTEN)
-    # Counters that stay 0 are folded until the user opens them.
+    # Counters that stay 0 are collapsed until the user expands them.
     assert shown.run("lanes.map(lane => lane.isFolded).join()") == ",".join(["true"] * 16)
     folded = shown.run("at('lanes').clientHeight")
     shown.run("at('gutter').querySelector('button').click()")
@@ -267,7 +269,7 @@ def test_sixteen_nodes_of_which_one_sends(opened):
 
 
 def long_names():
-    """Sixteen nodes with names of 15 letters, which each send a frame of 64 bytes. The first node goes bus off."""
+    """Sixteen nodes with names of 15 characters. Each sends a frame of 64 bytes, and the first goes bus off."""
     names, entries = [f"powertrain_can{number:X}" for number in range(16)], []
     for number in range(16):
         entries += [f"open {number} 256 = socket {number}", f"option {number} fd 1 = ok"]
@@ -292,16 +294,16 @@ def test_long_names_and_frames_have_room(opened, width):
     shown = opened(*long_names())
     shown.size(width)
     show_each(shown, width, TABS)
-    # The outcome of an attempt is visible in its row, however long the name and the frame are.
+    # The outcome of an attempt is visible in its row, however long the names and frames are.
     shown.run("showTab('tab-attempts')")
     shown.settle()
     assert "destroyed" in shown.run(OUTCOMES) and None not in shown.run(OUTCOMES)
-    # The end of each name, which differs between nodes, is visible in the node's lane.
+    # The end of each name, where the names differ, is visible in the node's lane.
     assert shown.run(ENDS) == [name[-5:] for name in long_names()[1]]
 
 
 def long_run(count=5000):
-    """can0 sends 123 and 124 in turn, and each 50th attempt fails. There is one pause of 3 seconds."""
+    """can0 sends 123 and 124 alternately, and every 50th attempt fails. There is one pause of 3 seconds."""
     entries, sent = ["open 0 1 = socket 0", "open 1 65536 = socket 1", "send 0 123# = number 0"], 0
     for number in range(count):
         fails, text = number % 50 == 49, f"12{3 + sent % 2}#"
@@ -339,7 +341,7 @@ def test_sums_and_extremes_are_those_of_the_steps(opened):
 
 def test_by_time_a_pause_looks_like_one(opened):
     shown = opened(long_run())
-    # The pause of 3 s comes before attempt 4000, and the whole run takes 8 s.
+    # The 3 s pause is before attempt 4000, and the whole run takes 8 s.
     gap = "(axis.start[4000] - axis.start[3999]) / axis.length"
     assert shown.run(gap) == pytest.approx(1 / 5000, rel=0.1)
     shown.key("t")
@@ -358,7 +360,7 @@ def test_lists_follow_the_chosen_attempt(opened):
         for name in ("tab-attempts", "tab-items"):
             shown.run(f"showTab('{name}')")
             shown.settle()
-            # No socket receives a destroyed frame.
+            # No socket receives a frame that is destroyed.
             belonging = [] if name == "tab-items" and number % 50 == 49 else [f"{number:,}"]
             assert shown.run(MARKED) == belonging
         shown.run("showTab('tab-attempts')")
@@ -374,8 +376,8 @@ def test_events_follow(shown):
 
 
 def test_time_since_the_start(opened):
-    """The list of events shows the time since the start next to the time of day. On a bench all times count from the start of the
-    run."""
+    """The list of events shows the time since the start next to the time of day. On a bench, all times are relative to
+    the start of the run."""
     cells = "[...document.querySelectorAll('#events .row')].map(row => [2, 3].map(k => row.children[k].textContent))"
     start = 1_732_540_000
     attempts = [
@@ -399,7 +401,8 @@ def test_time_since_the_start(opened):
 
 
 def test_statistics_of_identifiers(opened):
-    """Frame 100 comes after gaps of 10, 12 and 8 ms, 200 after a gap of 10.5 ms, and 300 only once."""
+    """The frames with identifier 100 have gaps of 10, 12 and 8 ms, and those with 200 a gap of 10.5 ms. 300 occurs only
+    once."""
     tried = [
         ("0.000000", "0 0 100#01"), ("0.001000", "1 0 200#AA"), ("0.010000", "0 1 100#02"), ("0.011500", "1 1 200#AB"),
         ("0.022000", "0 2 100#03"), ("0.023000", "0 3 300#"), ("0.030000", "0 4 100#04"),
@@ -448,7 +451,7 @@ def test_filters(opened):
 
 
 def test_interfaces_that_never_sent(opened):
-    """An interface that never sent has no name in the log. The page says how to name it."""
+    """An interface that never sent has no name in the log. The page tells the user how to name it."""
     shown = opened(bus_off(), ("can0", "interface 1"))
     assert shown.run("at('facts').textContent").endswith(
         " No log beside the record names all interfaces: --names NAME,.. does."
@@ -486,7 +489,7 @@ def test_a_held_key_and_the_load(opened):
           }}
         }})()"""
         )
-        # This is processor time, which does not depend on other work of the machine.
+        # This is processor time, which is not affected by other work on the machine.
         assert (used() - before) / count < 0.033
 
 
@@ -527,7 +530,7 @@ def test_tabs_are_chosen_by_arrow_keys(shown):
 
 
 def test_a_clean_run_begins_with_its_attempts(opened):
-    """The list of events is hidden, because the run has no events."""
+    """The list of events is hidden, because the run contains no events."""
     shown = opened(
         record_of(
             "open 0 256 = socket 0", "send 0 123# = number 0", "attempt 0.000001 good = tried 0 0 123# done 0002 0000"
@@ -545,7 +548,7 @@ def test_moments_of_the_clock_are_times_of_day(opened):
             f"attempt {start}.500000 good = tried 0 0 123# done 0002 0000",
         )
     )
-    # The time of day has the form of the browser's own formatter of dates.
+    # The time of day is in the same format as the browser's own date formatter produces.
     words = "{ hour: '2-digit', minute: '2-digit', second: '2-digit', hourCycle: 'h23' }"
     time_of_day = shown.run(f"new Intl.DateTimeFormat('en', {words}).format(new Date({start}000))")
     assert shown.run("at('chosen').textContent").startswith(f"Attempt 0 at {time_of_day}.500000")
@@ -555,8 +558,8 @@ def test_moments_of_the_clock_are_times_of_day(opened):
 
 
 def test_the_address_follows_what_is_chosen(shown, browser):
-    """The address holds the attempt, both cursors, the axis, the view, the list and its filters. A page that is opened with it
-    shows the same."""
+    """The address contains the attempt, both cursors, the axis, the view, the list and its filters. A page that is
+    opened with this address shows the same."""
     shown.key("t")
     shown.run("choose(12), markStep(3), look(1e-5, 2e-5), showTab('tab-attempts')")
     shown.run("at('of-outcome').value = '2', at('of-frame').value = '123#', at('in-view').click(), find(tab)")
@@ -569,7 +572,7 @@ def test_the_address_follows_what_is_chosen(shown, browser):
     assert address.split("#")[1].startswith("attempt=12&")
     shown.open(address)
     assert shown.run(state) == before
-    # An address that is typed into the open page is followed too.
+    # An address that is typed while the page is open takes effect too.
     shown.run("location.hash = '#attempt=15'")
     shown.until(f"{ATTEMPT} === 15 && tab === 'tab-events'")
     assert shown.run("[second.step, byTime.isOn, view.from, view.to === axis.length]") == [None, False, 0, True]
@@ -579,7 +582,7 @@ def test_the_address_follows_what_is_chosen(shown, browser):
 
 
 def test_two_cursors(shown):
-    """The page shows the time between two cursors, which are set by the key, the button or the mouse."""
+    """The page shows the time between two cursors, which can be set with a key, the button or the mouse."""
     shown.run("choose(20)")
     shown.key("m")
     assert shown.run("at('second-cursor').hidden") is False
@@ -597,7 +600,7 @@ def test_two_cursors(shown):
 
 
 def test_a_list_as_csv(shown):
-    """The CSV has the filtered rows. Its numbers have no group separators, and quotes follow RFC 4180."""
+    """The CSV file contains the filtered rows. Numbers have no thousands separators, and quoting follows RFC 4180."""
     rows = list(csv.reader(io.StringIO(shown.run("csvOf(lists[tab], at(tab))"))))
     assert rows[0] == ["attempt", "moment", "since last", "kind", "what"]
     assert rows[1] == ["11", "0.000012", "", "warning", "can0 is error warning: transmit count 96"]
@@ -613,8 +616,8 @@ def test_a_list_as_csv(shown):
 
 
 def test_states_without_colour(shown):
-    """States can be told apart without colour, because each fills another share of its band: warning is a frame or low, passive is
-    full, bus off is hatched."""
+    """States can be distinguished without colour, because each fills its band differently: warning is a frame or low,
+    passive is full, bus off is hatched."""
     shares = """[1, 2, 3].map(state => [40, 3].map(wide => {
       const pen = new OffscreenCanvas(48, 16).getContext('2d', { willReadFrequently: true });
       const measured = pen.measureText.bind(pen);

@@ -1,4 +1,5 @@
-"""The page of a run in Firefox. test_page.py has more tests, in Chromium. These tests are skipped without Firefox."""
+"""The page of a run in Firefox. test_page.py has more tests, for Chromium. The tests are skipped if Firefox is not
+installed."""
 
 import pytest
 from firefox import PROGRAM, Firefox
@@ -14,7 +15,7 @@ FOCUSED = "document.activeElement.closest('#bits') ? document.activeElement.cell
 
 @pytest.fixture(scope="module")
 def firefox(tmp_path_factory):
-    """A browser that opens one page after the other."""
+    """A browser that the tests use to open one page after another."""
     firefox = Firefox(tmp_path_factory.mktemp("firefox"))
     yield firefox
     firefox.close()

@@ -1,4 +1,5 @@
-"""The bits of the chosen attempt on the page of a run, in a browser. The tests are skipped without Chromium."""
+"""The bits of the selected attempt on the page of a run, in a browser. The tests are skipped if Chromium is not
+installed."""
 
 import pytest
 from browser import PROGRAM
@@ -15,7 +16,8 @@ ROWS = f"""[...({TABLE}).rows].slice(1).map(row => {{
   const [field, bits, notes] = row.cells;
   return [field.textContent, [...bits.firstChild.childNodes].map(said).join(''), notes.textContent];
 }})"""
-# The bits of 000# by hand: 34 zeros, with a stuff bit after each five. 001# loses in the last bit of its identifier, the 14th bit.
+# The bits of 000#, computed by hand: 34 zeros, with a stuff bit after every five bits. 001# loses in the last bit of
+# its identifier, which is the 14th bit on the wire.
 ZEROS = [
     ["SOF", "0", ""],
     ["identifier", "0000(1)00000(1)0{0}", "can1 falls silent in bit 13"],
@@ -34,7 +36,8 @@ ZEROS = [
 
 @pytest.fixture
 def shown(opened):  # noqa: F811
-    """The page of a run in which can1 loses arbitration to can0 twice, and then has faults."""
+    """The page of a run in which can1 loses arbitration to can0 twice, and in which can1's own frame then has three
+    faults."""
     return opened(
         record_of(
             "open 0 256 = socket 0",
@@ -51,7 +54,7 @@ def shown(opened):  # noqa: F811
 
 
 def rows_at(shown, attempt):
-    """Returns the rows of the table for an attempt."""
+    """Returns the table rows for an attempt."""
     shown.run(f"choose({attempt})")
     return shown.run(ROWS)
 
@@ -85,7 +88,7 @@ def test_stuff_bits_are_seen_without_colours(shown):
 
 
 def focused(shown, *keys):
-    """Returns the field that has the focus after these keys, or None if the focus is not visible."""
+    """Presses these keys. Returns the field that then has the focus, or None if the focus is not visible."""
     for key in keys:
         shown.key(key)
     return shown.run(
@@ -99,7 +102,7 @@ def focused(shown, *keys):
 
 def test_keys_in_the_table(shown):
     shown.run("choose(1), at('csv').focus()")
-    # After the last button, Tab reaches only the rows of the list and the table.
+    # After the last button, the Tab key reaches only the rows of the list and the table.
     reached = [focused(shown, "Tab") for _ in range(4)]
     assert "SOF" in reached and reached[-1] is None
     shown.run("at('csv').focus()")
@@ -108,7 +111,7 @@ def test_keys_in_the_table(shown):
         before = shown.run("document.activeElement.textContent")
     assert focused(shown, "ArrowUp") == "SOF"
     assert focused(shown, "ArrowDown") == "identifier"
-    # The left and right arrow keys choose attempts, as everywhere on the page.
+    # The left and right arrow keys select another attempt, as everywhere else on the page.
     assert focused(shown, "ArrowRight") == "identifier" and shown.run("view.step") == 2
     assert focused(shown, "End") == "intermission"
     assert focused(shown, "ArrowDown") == "intermission"

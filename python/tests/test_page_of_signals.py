@@ -1,5 +1,5 @@
-"""Signals on the page of a run, in a browser: lanes of curves and of names, the search, and values at the cursor. The tests are
-skipped without Chromium, or without a library that reads DBC files."""
+"""Signals on the page of a run, in a browser: lanes with curves and with names, the search, and values at the cursor.
+The tests are skipped if Chromium or a library that reads DBC files is not installed."""
 
 from pathlib import Path
 
@@ -23,8 +23,8 @@ CELLS = (
 
 @pytest.fixture(scope="module")
 def shown(tmp_path_factory):
-    """The page of a run in which a car goes from park to drive, at 0, 50 and 120.5 km/h. The pages of its multiplexer are 0, then
-    1."""
+    """The page of a run in which a car shifts from park to drive, at 0, 50 and 120.5 km/h. The multiplexer selects page
+    0 first, then page 1."""
     car = load_database(CAR, library="canmatrix")
     with Bench("ECU,TESTER") as bench:
         ecu = bench.open("ECU")
@@ -59,7 +59,8 @@ def test_at_first_those_that_change_are_shown(shown):
 
 
 def test_the_address_has_the_lanes_and_the_list(shown):
-    """The address has the shown signals and the words of the search. A page that is opened with it shows the same."""
+    """The address contains the signals that are shown and the search string. A page that is opened with this address
+    shows the same."""
     keys = [shown.run(f"signals.all().find(one => one.name === '{name}').key") for name in ("temperature", "torque")]
     shown.run(
         "showTab('tab-signals'), at('of-signal').value = 'eng', at('of-signal').dispatchEvent(new Event('input'))"
@@ -89,7 +90,7 @@ def test_values_at_the_cursor_are_in_one_table(shown):
     assert dict(choose(shown, 0)) == first
     assert dict(choose(shown, 2)) == {**first, "gear": "Drive", "speed": "120.5 km/h"}
     assert dict(choose(shown, 3))["left"] == "5"
-    # A signal that is missing from a multiplexed frame keeps its value.
+    # A signal that a multiplexed frame does not contain keeps its value.
     last = dict(choose(shown, 4))
     assert (last["page"], last["left"], last["right"]) == ("1", "5", "8 %")
 
@@ -105,8 +106,8 @@ def test_signals_are_found_by_parts_of_their_names(shown):
 
 @pytest.mark.parametrize("width", [500, 1200])
 def test_lanes_of_signals(shown, width):
-    """A band shows the names of its values, and a curve its smallest and largest value. A click on a lane's name removes the
-    lane."""
+    """A band shows the names of a signal's values. A curve shows the smallest and the largest value. Clicking on a
+    lane's name removes the lane."""
     shown.size(width)
     shown.run("[...at('gutter').querySelectorAll('button.goes')].forEach(button => button.click())")
     for name in ("gear", "speed"):

@@ -1,4 +1,5 @@
-"""The page of a run whose bus has bit rates, in a browser: bus load and time on the wire. The tests are skipped without Chromium.
+"""The page of a run on a bus with bit rates, in a browser: bus load and time on the wire. The tests are skipped if
+Chromium is not installed.
 """
 
 import pytest
@@ -13,16 +14,18 @@ from canbusd.record import parse_record
 
 pytestmark = pytest.mark.skipif(PROGRAM is None, reason="no chromium on the PATH")
 NODES = ("a", "b", "c")
-# At the first of these rates each of the seven attempts takes 216 microseconds, and the next attempt follows at once.
+# At the first of these bit rates, each of the seven attempts takes 216 microseconds, and the next one follows at once.
 FULL, HALF, DOUBLE = Rates(500000), Rates(1000000), Rates(250000)
 SEEN = "lanes[0].values().map(([, words]) => words)"
-# Returns whether the lane of bus load is drawn at these places of the axis: 16 pixels above its foot, and above its top.
+# Returns whether the bus load lane is drawn at these positions on the axis: 16 pixels above its bottom edge, and above
+# its top edge.
 DRAWN = """(places => {
   const wide = at('lanes').width, all = at('lanes').getContext('2d').getImageData(0, 0, wide, 60).data;
   const isDrawn = (x, y) => all[4 * (y * wide + x) + 3] > 0;
   return places.map(place => Math.round(placeOf(plotted(), place))).map(x => [isDrawn(x, 36), isDrawn(x, 4)]);
 })"""
-# The page's load agrees with the sum of the times of all attempts, in 400 parts of the run.
+# In 400 parts of the run, the page's load equals the sum of the times of all attempts divided by the length of the
+# part.
 SAME = """[...Array(400).keys()].every(k => {
   const from = k * 37 % 401 / 401 * run.wire.end, to = from + (1 + k * 53 % 97) / 97 * (run.wire.end - from);
   let busy = 0;
@@ -33,7 +36,7 @@ SAME = """[...Array(400).keys()].every(k => {
   return Math.abs(loadIn(from, to) - busy / (to - from)) < 1e-6;
 })"""
 
-# The page's load between the starts of two attempts is the share of the first attempt in that time.
+# The page's load between the starts of two attempts is the fraction of this time that the first attempt takes.
 EACH = """[...Array(axis.count - 1).keys()].every(step => {
   const load = loadIn(nanosAt(axis.start[step]), nanosAt(axis.start[step + 1]));
   return Math.abs(load - wire.busy[step] / (wire.begin[step + 1] - wire.begin[step])) < 1e-6;
@@ -42,18 +45,18 @@ EACH = """[...Array(axis.count - 1).keys()].every(step => {
 
 @pytest.fixture
 def half(opened):  # noqa: F811
-    """The page of a run at twice the bit rate, so that the wire is idle half of the time."""
+    """The page of a run at twice the bit rate, so that the bus is idle half of the time."""
     return opened(run_of_three_messages(), NODES, HALF)
 
 
 def look(shown, first, last):
-    """Zooms to a part of the time, in microseconds."""
+    """Zooms to a part of the time axis. The limits are in microseconds."""
     shown.run(f"look({first} / 1e6, {last} / 1e6)")
     shown.settle()
 
 
 def test_load_in_words(half):
-    # The run has 7 attempts of 108 microseconds, and an equally long pause after each but the last.
+    # The run has 7 attempts of 108 microseconds. Each one except the last is followed by a pause of equal length.
     assert "Bus load 53.8 % at 1 Mbit/s." in half.run("at('facts').textContent")
     assert half.run(SEEN) == ["in view 53.8 %", "in all 53.8 %"]
     for first, last, share in [(0, 108, "100.0"), (108, 216, "0.0"), (54, 162, "50.0"), (0, 216, "50.0")]:
@@ -83,7 +86,7 @@ def test_attempts_are_as_long_as_they_took(half):
     left, top = half.run(place)
     width = half.run("plotted().width")
     for attempt in (2, 5):
-        # This point is at two thirds of the attempt.
+        # This point is two thirds of the way through the attempt.
         x = left + (216 * attempt + 72) / 1404 * width
         half.mouse("mousePressed", x, top, button="left", clickCount=1)
         half.mouse("mouseReleased", x, top, button="left", clickCount=1)
@@ -114,7 +117,7 @@ def test_the_detail(opened):
         >= {
             "on the wire": "210 \u00b5s: 105 bits",
             "attempt": "216 \u00b5s, from its start until the next one may begin",
-            # The frame loses arbitration in the attempts that begin at 864 and 1080 microseconds.
+            # The frame loses arbitration in the attempts that start at 864 and 1080 microseconds.
             "response time": "at least 642 \u00b5s, from the start of attempt 4, its first, to this end of frame",
             "003 in view": "load 28.6 %, 28.6 % of the busy time",
         }.items()
@@ -124,7 +127,7 @@ def test_the_detail(opened):
 
 
 def test_an_attempt_that_failed_sent_no_whole_frame(opened):
-    # The frame of can0 is destroyed 32 times, in attempts that are a microsecond apart.
+    # The frame from can0 is destroyed 32 times, in attempts that are one microsecond apart.
     shown = opened(bus_off(), NAMES, FULL)
     shown.run("choose(0)")
     text = shown.run("at('chosen').textContent")
@@ -136,8 +139,8 @@ def test_an_attempt_that_failed_sent_no_whole_frame(opened):
 
 
 def test_attempts_longer_than_the_axis(opened):
-    """If the attempts are longer than the time between them, no part of the chosen attempt is drawn outside the lanes, and the text
-    of the load stays short."""
+    """Attempts that are longer than the time between them are not drawn outside the lanes, and the text for the load
+    stays short."""
     shown = opened(bus_off(), NAMES, FULL)
     assert shown.run(SEEN) == ["in view > 999 %", "in all > 999 %"]
     for width in (320, 500):
@@ -165,7 +168,7 @@ def test_identifiers_that_take_most(opened):
 
 
 def test_shares_are_those_of_the_attempts(opened):
-    # The run has 5,000 attempts that are a millisecond apart. Some of them fail, and there is one pause.
+    # The run has 5,000 attempts that are one millisecond apart. Some of them fail, and there is one pause.
     shown = opened(long_run(), NAMES, FULL)
     assert shown.run(SAME) is True and shown.run(EACH) is True
     shown.key("t")
@@ -191,8 +194,8 @@ def test_a_run_with_bus_off(opened):
     assert shown.run("titleOf(view.step)") == "restart"
     long_text = shown.run("tipWords(0, 32)").splitlines()
     assert long_text[0] == "attempts 0 to 31" and long_text[-1].startswith("bus load ")
-    # 123# has 19 bits up to its data length code, and a stuff bit in the 7 zeros of that. Then come 12 bits of error flags, 8 of
-    # the delimiter and 3 of intermission.
+    # 123# has 19 bits up to the end of its data length code, plus a stuff bit after five of the last 7 zeros. They are
+    # followed by 12 bits of error flags, 8 of the error delimiter and 3 of intermission.
     assert shown.run("tipWords(0, 1)").endswith("busy for 86 \u00b5s")
     assert "31 attempts begin before the wire is free" in shown.run("at('facts').textContent")
 
@@ -207,8 +210,8 @@ def test_nothing_is_cut_and_all_is_legible(half, width, dark):
     show_each(half, width, [*TABS, "tab-load"])
 
 
-# Returns the times from 0 to the end, in steps of `each` microseconds, at which this colour is drawn in the counters of a node,
-# `above` pixels above their foot.
+# Returns the times at which this colour is drawn among a node's counters, `above` pixels above the bottom edge. The
+# times are from 0 to the end of the run, in steps of `each` microseconds.
 AT_MOMENTS = """((node, name, above, each) => {
   const top = 2 + lanes.slice(0, lanes.findIndex(lane => lane.number === node)).reduce((sum, lane) => sum + lane.height, 0);
   const y = top + STRIP + BAND + 4 + CURVES - 2 - above, canvas = at('lanes'), wide = plotted().width;
@@ -224,7 +227,7 @@ AT_MOMENTS = """((node, name, above, each) => {
 
 
 def between(each, whole, *spans):
-    """Returns the middles of the steps that are in these spans of time."""
+    """Returns the midpoints of the steps that are in one of these time spans."""
     moments = [each * k + each / 2 for k in range(whole // each)]
     return [moment for moment in moments if any(first < moment < last for first, last in spans)]
 
@@ -232,8 +235,8 @@ def between(each, whole, *spans):
 def test_a_queue_is_grey_while_a_frame_waits(half):
     """A queue is grey from the start of the first attempt of its frame until the end of the attempt that sends it.
 
-    Attempts of 108 microseconds begin every 216. a, b and c queue a frame at the start, a the next one after the third attempt, b
-    and c after the fourth, and a after the fifth.
+    Attempts of 108 microseconds begin every 216 microseconds. At the start, a, b and c each queue a frame. a queues its
+    next frame after the third attempt, b and c after the fourth, and a again after the fifth.
     """
     half.run("for (const lane of lanes) lane.isFolded = false; buildGutter(); redraw()")
     half.settle()
@@ -247,13 +250,13 @@ def test_a_queue_is_grey_while_a_frame_waits(half):
 
 
 def test_a_queue_without_a_bit_rate_is_grey_while_a_frame_is_known_to_wait(opened):
-    """Without bit rates, attempts take no time. A frame that is left after one attempt waits until the next attempt."""
+    """Without bit rates, attempts take no time. A frame that remains after one attempt waits until the next attempt."""
     shown = opened(run_of_three_messages(), NODES)
     shown.key("t")
     shown.run("for (const lane of lanes) lane.isFolded = false; buildGutter(); redraw()")
     shown.settle()
-    # Times count from the first attempt, at 210. b sends in the second attempt, at 426. c sends in the third, at 642, and in the
-    # last, at 1506.
+    # Times are relative to the first attempt, at 210. b sends in the second attempt, at 426. c sends in the third, at
+    # 642, and in the last, at 1506.
     for node, spans in enumerate([[], [(0, 216)], [(0, 432), (864, 1296)]]):
         seen = shown.run(f"{AT_MOMENTS}({node}, 'queue', 8, 24)")
         at_instants = {216 * k + 12 for k in range(7)}
@@ -263,7 +266,7 @@ def test_a_queue_without_a_bit_rate_is_grey_while_a_frame_is_known_to_wait(opene
 
 
 def test_an_outage_is_as_long_as_it_was(opened):
-    """A state begins and ends at the end of an attempt, or at a restart."""
+    """A state begins and ends at the end of an attempt or at a restart."""
     entries = ["open 0 1 = socket 0", "open 1 1 = socket 1", "send 0 123# = number 0"]
     for attempt in range(32):
         off = "0001" if attempt == 31 else "0000"
@@ -275,7 +278,8 @@ def test_an_outage_is_as_long_as_it_was(opened):
     ]
     lines = ["canbus record 1", "bus 2 always 0000 10 100", *entries, f"end {len(entries)}", ""]
     shown = opened(parse_record("\n".join(lines).encode()).replay, ("can0", "can1"), FULL)
-    # can0 is error passive after 16 attempts, and bus off after 32. An attempt begins each millisecond, and takes 86 microseconds.
+    # can0 is error passive after 16 attempts and bus off after 32. An attempt begins every millisecond and takes 86
+    # microseconds.
     for attempt, is_before in ((15, False), (31, True)):
         look(shown, 1000 * attempt - 100, 1000 * attempt + 300)
         seen = [moment - 1000 * attempt for moment in shown.run(f"{AT_MOMENTS}(0, 'passive', BAND + CURVES, 4)")]

@@ -1,4 +1,4 @@
-"""Programs with CAN sockets on the buses of a server: some run to their end, and some keep running."""
+"""Programs with CAN sockets on the buses of a server. Some run to completion, others keep running."""
 
 import contextlib
 import os
@@ -17,7 +17,7 @@ from canbusd import Server, ServerError
 from canbusd._process.output import BLOCK, MOST, Output, Search
 from canbusd.programs import Program, words_of
 
-# A node for SocketCAN, which prints each received frame.
+# A SocketCAN node that prints every frame that it receives.
 NODE = """
 import socket, struct, sys
 with socket.socket(socket.PF_CAN, socket.SOCK_RAW, socket.CAN_RAW) as node:
@@ -27,7 +27,7 @@ with socket.socket(socket.PF_CAN, socket.SOCK_RAW, socket.CAN_RAW) as node:
         print("received %X" % struct.unpack("=I", node.recv(16)[:4]), flush=True)
 """
 STAYS = [sys.executable, "-c", NODE]
-# A program that ignores SIGTERM, and prints a note.
+# A program that ignores SIGTERM and prints a note instead.
 STUBBORN = [
     sys.executable,
     "-c",
@@ -37,7 +37,7 @@ STUBBORN = [
 
 
 def has_ended(pid):
-    """Returns whether this process has ended."""
+    """Returns whether the process with this id has ended."""
     try:
         os.kill(pid, 0)
     except ProcessLookupError:
@@ -125,7 +125,7 @@ def test_one_that_ends_by_itself():
         "  one",
         "  two",
     ]
-    # The expected line needs to occur only once.
+    # The error is raised only once, so stop() succeeds now.
     assert server.stop().status == 0
 
 
@@ -147,7 +147,7 @@ def test_a_server_that_is_killed():
     assert other.stop().status == -signal.SIGKILL
 
 
-# A Python program that starts a program, prints the process ids, and then ends in one of several ways.
+# A Python script that starts a program, prints the process ids, and then ends in one of several ways.
 STARTS = """
 import os, signal, sys, threading, time
 from canbusd import Server
@@ -155,7 +155,8 @@ server = Server("can0", listen=sys.argv[1])
 program = server.start(["sh", "-c", sys.argv[2]])
 print(program.pid, program.expect("\\n"), flush=True)
 """
-# A shell program that ends at SIGTERM, one that does not, and one with a second process in its group.
+# Three shell programs: one that ends at SIGTERM, one that ignores SIGTERM, and one with a second process in its process
+# group.
 MEEK, STUBBORN_ONE, TWO = (
     "echo; exec sleep 1000",
     "trap '' TERM; echo; sleep 1000",
@@ -168,14 +169,14 @@ ENDS = {
     "exec": "os.execv('/bin/true', ['true'])",
     "SIGKILL": "os.kill(os.getpid(), signal.SIGKILL)",
     "SIGTERM": "os.kill(os.getpid(), signal.SIGTERM)",
-    # The forked child keeps the output open until its input ends.
+    # The forked child keeps the standard output open until its standard input is closed.
     "SIGKILL beside a child": "os.fork() or os.read(0, 1)\nos.kill(os.getpid(), signal.SIGKILL)",
     "SIGKILL in a thread": "threading.Thread(target=lambda: os.kill(os.getpid(), signal.SIGKILL)).start()\ntime.sleep(100)",
 }
 
 
 def wait_until_ended(pids, seconds=WAIT):
-    """Waits until all these processes have ended; fails if one remains after these seconds."""
+    """Waits until all these processes have ended. Fails if one is left after `seconds`."""
     until = time.monotonic() + seconds
     while not all(map(has_ended, pids)):
         assert time.monotonic() < until, f"{pids} go on"
@@ -190,11 +191,12 @@ def wait_until_ended(pids, seconds=WAIT):
     ],
 )
 def test_one_that_nobody_stops(program, end, tmp_path):
-    """The program and its whole group end together with the process that started them, however that process ends."""
+    """The program and its whole process group end when the process that started them ends, no matter how it ends."""
     words = [sys.executable, "-c", STARTS + ENDS[end], f"{tmp_path}/socket", program]
     read, write = os.pipe()
     try:
-        # The pipe may stay open in a child of the program, so the test does not wait for the end of the pipe.
+        # A child of the program might keep a pipe open, so the output goes to a file and the test does not wait for the
+        # end of a pipe.
         with open(tmp_path / "output", "w+b") as file:
             child = subprocess.Popen(words, stdin=read, stdout=file, stderr=subprocess.STDOUT)
             child.wait(WAIT)
@@ -225,7 +227,7 @@ def children():
 
 
 def test_nothing_is_left_of_one_that_has_ended(server):
-    """An ended program leaves no process, so no later signal hits another process with the same id."""
+    """A program that has ended leaves no process, so no later signal reaches another process with its id."""
     before = children()
     for ended in (
         lambda one: one.wait(WAIT),
@@ -246,17 +248,17 @@ def test_nothing_is_left_of_one_that_did_not_start(server):
 
 
 def test_one_that_is_forgotten(server):
-    """A program ends when no reference to it is left, as a server does."""
+    """A program ends when the last reference to its object is dropped, just as a server does."""
     pid = Program(["sleep", "1000"], [], server._folder / "forgotten", False).pid
     until = time.monotonic() + WAIT
-    # If the program has ended before Python frees the object, Python waits for it itself.
+    # If the program has ended before Python frees the object, Python itself waits for the process.
     with contextlib.suppress(ChildProcessError):
         while os.waitpid(pid, os.WNOHANG) == (0, 0):
             assert time.monotonic() < until
             time.sleep(0.02)
 
 
-# A program that writes more than is read during an expectation, but not more than the disk holds.
+# A program that, during an expectation, writes more than is read, but not more than the disk can hold.
 ENDLESS = "import os, signal\nfor _ in range(3000): os.write(1, b'x' * 99_999 + b'\\n')\nsignal.pause()"
 
 
@@ -267,10 +269,10 @@ def peak():
 
 @pytest.mark.parametrize("within", [0, 0.5, 2])
 def test_an_expectation_beside_one_that_writes_without_end(server, within):
-    """An expectation ends in time, and takes at most 10 MB of memory."""
+    """An expectation ends in time, and uses at most 10 MB of memory."""
     endless = server.start([sys.executable, "-c", ENDLESS])
     endless.expect("x", within=WAIT)
-    # This resets the peak memory to the present memory.
+    # Resets the peak memory to the current memory.
     Path("/proc/self/clear_refs").write_text("5")
     memory, start = peak(), time.monotonic()
     with pytest.raises(
@@ -283,7 +285,8 @@ def test_an_expectation_beside_one_that_writes_without_end(server, within):
 
 
 def test_a_long_output(tmp_path):
-    """A text is found at any place, even across two blocks. The returned output is the last megabyte up to the end of that text."""
+    """A string is found at any position, even across two blocks. The returned output is the last megabyte up to the end
+    of that string."""
     path = tmp_path / "output"
     for place in (0, BLOCK - 3, 5 * MOST):
         path.write_bytes(b"." * place + b"\xc3\xa4\r\nneedle" + b"," * MOST + b"\n")
@@ -296,7 +299,7 @@ def test_a_long_output(tmp_path):
 
 
 def test_a_search_that_goes_on(tmp_path):
-    """A search goes on while output is written, even in the middle of a character."""
+    """A search continues while output is written, even if a write ends in the middle of a character."""
     path = tmp_path / "output"
     with open(path, "wb", buffering=0) as file, Search(path, "b\u20acd\ne") as search:
         for byte in "ab\u20acd\r\ne".encode():
@@ -318,8 +321,8 @@ def test_an_expectation_that_fails(server):
 
 
 def test_a_program_that_can_not_be_started(server, tmp_path):
-    """A program that does not exist raises the error of subprocess, in any environment and folder. A status of the program itself
-    is returned."""
+    """Starting a program that does not exist raises subprocess's error, with any environment and folder. If the program
+    starts, its own exit status is returned."""
     (tmp_path / "plain").write_text("")
     (tmp_path / "script").write_text("#!/bin/sh\nexit 127\n")
     (tmp_path / "script").chmod(0o755)
@@ -334,7 +337,7 @@ def test_a_program_that_can_not_be_started(server, tmp_path):
         for words, more in ((f"{tmp_path}/plain", {}), ("./plain", {"cwd": tmp_path}), ("plain", {"env": there})):
             with pytest.raises(PermissionError):
                 call(words, **more)
-    # The launcher of a clone is a bash script, so the PATH must have bash.
+    # The launcher in a clone is a bash script, so bash has to be on the PATH.
     there = {"PATH": f"{tmp_path}:{os.environ['PATH']}"}
     for words, more in (("script", {"env": there}), ("./script", {"cwd": tmp_path}), ("sh -c 'exit 127'", {})):
         assert server.run(words, **more).returncode == 127

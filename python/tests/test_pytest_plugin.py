@@ -1,4 +1,4 @@
-"""The pytest plugin, tested by tests that run pytest."""
+"""The pytest plugin, tested by running pytest on small tests."""
 
 import os
 import re
@@ -33,14 +33,14 @@ FAILS = """
 
 @pytest.fixture
 def run(pytester, monkeypatch):
-    """Runs pytest on a test, in another process with this package."""
+    """A function that runs pytest on a test, in another process that uses this package."""
     monkeypatch.setenv("PYTHONPATH", str(Path(canbusd.__file__).parents[1]), prepend=os.pathsep)
     monkeypatch.setenv("PYTHONDONTWRITEBYTECODE", "1")
 
     def run(text, *words):
         body = "\n".join(line[4:] for line in text.split("\n"))
         pytester.makepyfile("import can, canbusd, pytest\n" + body)
-        # If the package is installed, pytest loads the plugin by itself.
+        # -p loads the plugin even if the package is not installed.
         words = (
             "-p",
             "canbusd.pytest_plugin",
@@ -55,7 +55,7 @@ def run(pytester, monkeypatch):
 
 
 def kept(pytester):
-    """Returns the names of the files that were kept of the runs."""
+    """Returns the names of the files that the runs have left in the folder `kept`."""
     return sorted(path.name for path in (pytester.path / "kept").rglob("*") if path.is_file())
 
 
@@ -130,8 +130,8 @@ def test_a_failed_test_in_a_junit_file(run, pytester):
 
 
 def test_a_program_that_dies_fails_the_test(run):
-    """The report shows the output and the status of a program that died, as it does for a program that was ended after a failed
-    test."""
+    """The report shows the output and the status of a program that died, just as for a program that is ended after a
+    failed test."""
     result = run(
         """
     def test_death(canbusd):
@@ -270,7 +270,7 @@ def test_rules_that_gave_no_verdict(run, pytester):
 
 
 def test_a_server_that_dies(run):
-    """A test may kill its server. If the server crashes, the test fails."""
+    """A test may kill its server without failing. If the server crashes, the test fails."""
     result = run(
         """
     def test_it_is_killed(canbusd):
@@ -388,7 +388,7 @@ def test_what_a_marker_may_not_say(run):
     )
     result.stdout.fnmatch_lines([f"{mark}('a', database='nowhere.dbc'): *No such file*"])
     result.stdout.fnmatch_lines([f"{mark}('a', faults='next 1 lost'): *script line 1: bad line"])
-    # For each error, only this text is shown, and no source of the package.
+    # Each error shows only this message, without any source lines from the package.
     assert "def __init__" not in result.stdout.str() and "Traceback" not in result.stdout.str()
     assert result.stdout.str().count("pytest_plugin.py") == 0
 
@@ -499,7 +499,8 @@ def test_a_test_that_has_to_fail_has_not_failed(run, pytester):
 
 @pytest.mark.parametrize("fixture", ["canbusd", "canbusd_bench"])
 def test_a_test_that_is_interrupted_has_failed(run, pytester, fixture):
-    """An interrupted test fails, as after Ctrl-C. The files of the test before are removed."""
+    """A test that is interrupted, as by Ctrl-C, counts as failed, so its files are kept. The files of the earlier test
+    are removed."""
     result = run(
         f"""
     def test_it_passes({fixture}):
@@ -524,7 +525,7 @@ def test_no_links_that_lead_nowhere(run, pytester):
 
 @pytest.mark.parametrize("fixture", ["canbusd", "canbusd_bench"])
 def test_a_pytest_that_is_killed(run, pytester, monkeypatch, fixture):
-    """A killed pytest leaves files only in its own folder, which the next pytest removes."""
+    """A killed pytest leaves files only in its own folder. The next pytest removes this folder."""
     (pytester.path / "tmp").mkdir()
     monkeypatch.setenv("TMPDIR", str(pytester.path / "tmp"))
     run(
@@ -581,7 +582,7 @@ def test_an_expectation_that_fails_shows_what_was_seen(run):
             "E * (*) can1 123#0102",
         ]
     )
-    # The failure is shown at the line of the test.
+    # The failure is reported at a line of the test, not of the package.
     done.stdout.no_fnmatch_line("*expectations.py*")
 
 
@@ -604,7 +605,7 @@ def test_a_database_is_in_the_failure_and_on_the_page(run, pytester):
 
 
 def test_a_server_that_tests_share_is_expected_from_each_test_on(run):
-    """Frames that are sent during a fixture of a test can be expected in that test."""
+    """A test can expect frames that were sent while one of its fixtures was set up."""
     done = run(
         """
     @pytest.fixture(scope="module")

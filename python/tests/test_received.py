@@ -1,4 +1,5 @@
-"""The frames of several sessions, merged: each frame of a bus occurs once, in order, whichever session was read first."""
+"""The merged frames of several sessions: each frame of a bus occurs once, in order, whichever session was read first.
+"""
 
 import itertools
 
@@ -8,8 +9,8 @@ from canbusd._expect import received_frames
 from canbusd._expect.received_frames import Received, state_in
 from canbusd._session.protocol import ErrorCounters
 
-# The frames that sessions on a and b receive: a sends frame 1, b sends frame 2, a sends frame 1 again, and then frame 3, which b
-# misses.
+# The frames that the sessions on a and b receive: a sends frame 1, b sends frame 2, then a sends frame 1 again and
+# frame 3. b misses frame 3.
 AT_A = [
     "< frame 001 1.000001 11 same 0",
     "< frame 002 1.000002  other 0",
@@ -24,7 +25,7 @@ AT_B = [
 
 
 def mixed(*lists):
-    """Yields all merges of lists that keep the order within each list."""
+    """Yields all possible merges of the lists. A merge keeps the order of the items of each list."""
     places = [number for number, one in enumerate(lists) for _ in one]
     for order in set(itertools.permutations(places)):
         rest = [iter(one) for one in lists]
@@ -42,7 +43,8 @@ def test_the_order_is_that_of_the_bus():
 
 
 def test_frames_of_one_microsecond():
-    """After a fault in the last bit, a frame is sent again. Both have the same sender, text, number and time, but count as two."""
+    """After a fault in the last bit, a frame is sent again. The two frames have the same sender, content, number and
+    timestamp, but count as two."""
     received = Received([["a", "b"]], ["a", "b"])
     for name in "abab":
         received.add(name, "< frame 001 1.000001 11 other 0")
@@ -55,7 +57,7 @@ def test_frames_of_two_buses_are_two():
     received.add("a", "< frame 001 1.000001 11 other 0")
     assert [seen.channel("ab") for seen in received.untaken()] == ["a", "b"]
     received.take(next(received.untaken()))
-    # The other bus has an order of its own, so a frame that is taken on one bus leaves the frames of the other bus.
+    # Each bus has its own order, so taking a frame of one bus does not take earlier frames of the other bus.
     assert [seen.channel("ab") for seen in received.untaken()] == ["b"]
 
 
@@ -87,7 +89,7 @@ def test_only_error_message_frames_of_others():
 @pytest.mark.parametrize(
     "text, state",
     [
-        # By linux/can/error.h, byte 1 has the state, and bytes 6 and 7 have the error counters.
+        # In linux/can/error.h, byte 1 contains the state, and bytes 6 and 7 contain the error counters.
         ("204 1.0 0008000000006000", ("warning", 96, 0)),
         ("204 1.0 0004000000000060", ("warning", 0, 96)),
         ("204 1.0 0030000000008080", ("passive", 128, 128)),
@@ -121,7 +123,7 @@ def test_states_are_expected_one_after_another():
     received = states("warning passive off restarted warning active off restarted")
     found = [received.expected_state("a", state) for state in ("off", "active", "active", "off", "active")]
     assert [seen.moment for seen in found] == [1_000_002, 1_000_003, 1_000_005, 1_000_006, 1_000_007]
-    # The interface is still active, and has not changed its state since.
+    # The interface is still active, and its state has not changed since then.
     assert received.expected_state("a", "active").moment == 1_000_007
     assert received.expected_state("a", "off") is None
     assert received.states_since("a") == []

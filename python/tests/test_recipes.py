@@ -1,4 +1,4 @@
-"""Each recipe is a file of tests in examples/recipes. It runs unchanged, and is printed in the document."""
+"""Each recipe is a test file in examples/recipes. The recipe runs unchanged, and the document prints it."""
 
 import ast
 import importlib.util
@@ -24,12 +24,12 @@ NEEDED = {
 
 
 def recipes():
-    """Returns the path of each recipe, by its name."""
+    """Returns the paths of all recipes, by recipe name."""
     return {path.stem[len("test_") :]: path for path in sorted(RECIPES.glob("test_*.py"))}
 
 
 def run(installed, folder, names, *words, **environment):
-    """Runs copies of recipes, and returns the output of pytest."""
+    """Runs copies of the recipes, and returns pytest's output."""
     for name in names:
         shutil.copy(recipes()[name], folder)
     done = subprocess.run(
@@ -41,7 +41,7 @@ def run(installed, folder, names, *words, **environment):
 
 @pytest.fixture(scope="module")
 def written(installed, request):
-    """The output of pytest for all recipes whose modules are installed."""
+    """pytest's output for all recipes whose required modules are installed."""
     there = [name for name in recipes() if name not in NEEDED or importlib.util.find_spec(NEEDED[name])]
 
     def make(folder):
@@ -76,7 +76,7 @@ def test_a_recipe(written, name):
 
 
 def test_virtual_time(installed, tmp_path):
-    """All recipes run in virtual time, except those whose programs use the real clock."""
+    """All recipes run in virtual time, except those with programs that use the real clock."""
     others = ("a_virtual_ecu", "a_go_node")
     there = [name for name in recipes() if name not in others]
     names = [name for name in there if name not in NEEDED or importlib.util.find_spec(NEEDED[name])]
@@ -87,7 +87,7 @@ def test_virtual_time(installed, tmp_path):
 
 @pytest.mark.skipif(not shutil.which("gcc") or not shutil.which("candump"), reason="no gcc or no can-utils")
 def test_the_first_found_fault(installed, tmp_path):
-    """The commands of this recipe work one after the other in a clone."""
+    """The commands of this recipe work when they are run one after another in a clone."""
     text = DOCUMENT.read_text(encoding="utf-8").partition("## The first found fault\n")[2].partition("\n## ")[0]
     commands = re.findall(r"^ +\$ (.*(?:\n {9,}\S.*)*)", text, re.M)
     (test,) = re.findall(r"^```python\n(.*?)^```$", text, re.M | re.S)

@@ -1,4 +1,4 @@
-"""Records are as docs/RECORD.md describes them, and give the events of their runs."""
+"""Records have the form that docs/RECORD.md describes, and yield the events of their runs."""
 
 import re
 from pathlib import Path
@@ -14,7 +14,7 @@ from canbusd.record import Attempt, BadRecord, Item, audit, attempts_of, parse_r
 from canbusd.replay import Replay
 
 ROOT = Path(__file__).parents[2]
-# The worked example of docs/RECORD.md.
+# The worked example from docs/RECORD.md.
 EXAMPLE = """\
 canbus record 1
 bus 2 always 0000 10 100
@@ -27,7 +27,7 @@ receive 1 = none
 close 1 = closed 0 0
 end 7
 """
-# A record in which an interface goes bus off, and restarts in the second attempt after that.
+# A record in which an interface goes bus off and restarts at the end of the second attempt after that.
 RESTARTED = "\n".join(
     [
         "canbus record 2",
@@ -56,7 +56,7 @@ send 0 123##00102030405060708090A0B0C = number 0
 end 4
 """
 WITH_FLAGS = WITH_FD.replace("record 3", "record 5").replace("##001", "##101")
-# A record that was written during its run. It has no FD frames, and an interface restarts.
+# A record that was written during its run. It contains no FD frames, and automatic restart is on.
 LIVE = """\
 canbus record 4
 bus 2 always 0000 10 4294967294 1
@@ -229,13 +229,13 @@ def test_steps_are_made_of_columns():
     assert (off.counts, back.counts) == (((256, 0), (0, 32)), ((0, 0), (0, 32)))
     assert [(number, frame.text) for number, frame in off.contenders] == [(0, "123#")]
     assert (back.entry, back.attempt, back.idle, back.text, back.contenders) == (36, 32, 2, "", [])
-    # The restart has the number of the next attempt, which was not made.
+    # The restart has the index of the next attempt, which did not take place.
     assert list(map(run.steps.place_of, [0, 31, 32, None])) == [0, 31, None, None]
 
 
 def test_times_on_the_wire_are_columns():
-    """An attempt has times if its line has them. A restart at the end of an attempt has no times, and neither has any step if no
-    times were requested."""
+    """An attempt has times on the wire if the line in the record has them. A restart at the end of an attempt has none,
+    and if no times were requested, no step has any."""
     lines = [
         "canbus events 1",
         "bus 2 always 0000 10 100 2",
@@ -258,7 +258,7 @@ def test_times_on_the_wire_are_columns():
 
 
 def test_pages_of_a_run_do_not_depend_on_how_it_is_read():
-    """The texts of a run have the same places, however many lines are taken at once."""
+    """The strings of a run have the same indices, however many lines are read at once."""
     lines = [
         "canbus events 1",
         "bus 2 always 0003 10 100",
@@ -276,13 +276,13 @@ def test_pages_of_a_run_do_not_depend_on_how_it_is_read():
     whole.take(lines)
     for line in lines:
         parts.take([line])
-    # A frame that only waits has no time.
+    # The frame 124# only waits, so the table of strings does not contain it.
     texts = ["", "123#", "20000088#0000010000000000"]
     assert whole.texts.all == parts.texts.all == texts and whole.items.errors == parts.items.errors
 
 
 def test_fates_as_a_run_goes_on():
-    """An item waits until it is received or its socket closes, even if no further attempt follows."""
+    """An item waits until it is received or its socket is closed, even if there are no further attempts."""
     run = Replay()
     run.take(["canbus events 1", "bus 2 always 0000 10 100", "open 0 5 = socket 0", "open 1 1 = socket 1"])
     for number in range(3):
@@ -297,7 +297,7 @@ def test_fates_as_a_run_goes_on():
 
 
 def fates_of(run):
-    """Returns the outcome of each item, with the number of steps before that outcome."""
+    """Returns the outcome of each item, and the number of steps before that outcome."""
     return [(FATES[fate], end) for fate, end in zip(run.items.fates(), run.items.ends())]
 
 
@@ -323,14 +323,14 @@ def test_events_that_are_read_in_parts(monkeypatch, size):
     monkeypatch.setattr("canbusd._run.events.BLOCK", size)
     record = parse_record(RESTARTED.encode())
     assert record == whole and (record.attempts, record.items) == (whole.attempts, whole.items)
-    # A byte that no record can have is reported before wrong lines.
+    # A byte that can't occur in a record is reported before lines that are wrong.
     with pytest.raises(BadRecord) as fault:
         parse_record(RESTARTED.replace("open 0", "open 16").encode() + b"\xff\n")
     assert fault.value.verdict == "read fault"
 
 
 def test_why_a_record_is_refused():
-    """The reason has the program's words on one line."""
+    """The reason is the program's error message, on one line."""
     for text, words in (
         (
             EXAMPLE.replace("123#01FF done", "123#01FF lastbit"),
@@ -346,7 +346,7 @@ def test_why_a_record_is_refused():
 
 
 def test_a_program_that_is_another(monkeypatch, tmp_path):
-    """Each of these programs does not fit the package: it is too old, gets killed, or writes another version of events."""
+    """None of these programs fits: one is too old, one is killed, and one writes another version of events."""
     program = tmp_path / "canbusd"
     monkeypatch.setenv("CANBUSD", str(program))
     for script, words in (
@@ -396,7 +396,8 @@ def test_faults_of_a_record_that_is_cut_off():
         assert audit(text.replace(b"done 0002", b"done 0000"), cut=True) == "canbusd: entry 3: wrong"
         assert audit(text.replace(b"123#01FF", b"123#01ff"), cut=True) == "canbusd: line 5: bad line"
         assert audit(text.replace(b"socket 0", b"socket \xff"), cut=True) == "canbusd: read fault"
-    # The audit accepts version 3 without an FD frame, because one may come later. No record has to have version 4.
+    # The audit accepts version 3 without an FD frame if the record is cut off, because an FD frame could have followed.
+    # Version 4 is never required.
     for version, limit in ((3, 100), (4, 16777217)):
         text = f"canbus record {version}\nbus 1 always 0000 10 {limit} 0\nopen 0 1 = socket 0\n"
         assert audit(text.encode(), cut=True) == "ok 1 entries, then cut off"
@@ -417,7 +418,7 @@ def test_names_in_the_log_of_a_run_that_was_killed(tmp_path, ending, name):
 @pytest.mark.parametrize("text", [EXAMPLE, LIVE, LIVE_RESTARTED, LIVE_WITH_FD], ids=["1", "4", "restarted", "fd"])
 @pytest.mark.parametrize("many", [1, 2])
 def test_a_text_that_is_read_as_it_grows(text, many):
-    """A text that is read one or two lines at a time gives the same result as a text that is read at once."""
+    """A record that is read one or two lines at a time yields the same result as one that is read at once."""
     lines, run, attempts = text.encode().splitlines(True), Replay(), []
     with Events(cut=True) as events:
         for first in range(0, len(lines), many):
@@ -430,7 +431,7 @@ def test_a_text_that_is_read_as_it_grows(text, many):
 
 
 def test_a_text_that_is_larger_than_a_pipe():
-    """The events are read while the text is written, at once or in two halves."""
+    """The events are read while the record is being written to the program, whether at once or in two halves."""
     count = BLOCK // 16
     front, lines = "canbus record 1\nbus 1 always 0000 10 16777216\n", "open 0 0 = bad-capacity\n" * count
     assert len(parse_record(f"{front}{lines}end {count}\n".encode()).lines) == count
@@ -442,7 +443,7 @@ def test_a_text_that_is_larger_than_a_pipe():
     assert run.entries == 2 * count
 
 
-# Sockets 1 and 2 have room for one item. Only socket 1 receives error message frames.
+# Sockets 1 and 2 have room for one item each. Only socket 1 receives error message frames.
 DROPPED = """\
 canbus record 1
 bus 2 always 0003 10 100
@@ -462,8 +463,8 @@ end 11
 
 
 def test_items_that_found_no_room():
-    """The frame of a dropped item is known if the item can't be an error message frame: there was no fault, or the socket does not
-    receive error message frames."""
+    """The frame of a dropped item is known if the item can't be an error message frame. This is so if there was no
+    fault, or if the socket does not receive error message frames."""
     items = [(item.socket, item.frame and str(item.frame), item.fate) for item in parse_record(DROPPED.encode()).items]
     assert items == [
         (1, "123#", "waiting"), (2, "123#", "waiting"), (1, "124#", "dropped"), (2, "124#", "dropped"),

@@ -1,4 +1,4 @@
-"""The page of a run: its words, and the data for its JavaScript."""
+"""The page of a run: its text, and the data for its JavaScript."""
 
 import base64
 import json
@@ -19,14 +19,14 @@ NAMES = ("can0", "can1")
 
 
 def record_of(*entries, bus="2 always 0000 10 10000", version=1):
-    """Returns the replay of these entries."""
+    """Returns the replay of a record with these entries."""
     text = "\n".join([f"canbus record {version}", f"bus {bus}", *entries, f"end {len(entries)}", ""])
     return parse_record(text.encode(), names=NAMES).replay
 
 
 def bus_off():
-    """Returns a run in which can0's frame is destroyed 32 times, which adds 8 to its counter each time. can0 restarts in the second
-    attempt after that."""
+    """Returns a run in which can0's frame is destroyed 32 times. Each time, can0's transmit error counter grows by 8.
+    can0 restarts at the end of the second attempt after that."""
     return record_of(
         "open 0 256 = socket 0",
         "send 0 123# = number 0",
@@ -46,7 +46,7 @@ def events_in(run):
 
 
 def data_of(text):
-    """Returns the header of a page's data, and a function that reads a column of the data."""
+    """Returns the header of the page's data, and a function that reads one column of the data."""
     coded = re.search(r'<script type="text/plain" id="run">([^<]*)</script>', text)[1]
     whole = zlib.decompress(base64.b64decode(coded))
     (size,) = struct.unpack("<I", whole[-4:])
@@ -56,7 +56,7 @@ def data_of(text):
         code, place, length = one[:3]
         numbers = array(code)
         count = length * numbers.itemsize
-        # The lowest byte of a number comes first.
+        # The least significant byte of each number comes first.
         numbers.frombytes(b"".join(whole[place + k : place + count : length] for k in range(length)))
         for k in range(1, length if one[3:] else 0):
             numbers[k] += numbers[k - 1]
@@ -103,8 +103,8 @@ def test_durations(micros, words):
 
 
 def test_how_long_a_node_was_off():
-    """An outage is shown in seconds and in attempts of other nodes: it lasts from the attempt that caused bus off to the last one
-    before the restart."""
+    """The duration of an outage is shown in seconds and in attempts by other nodes. The outage lasts from the attempt
+    that caused bus off to the last attempt before the restart."""
     with Bench("can0,can1", faults=Faults().destroyed(range(32))) as bench:
         can0, can1 = bench.open("can0"), bench.open("can1")
         can0.send(0x123)
@@ -114,7 +114,7 @@ def test_how_long_a_node_was_off():
             can1.send(0x124)
             bench.attempt(at=0.1 + number)
         can0.restart()
-        # A restart has the time of the attempt before it.
+        # A restart has the same timestamp as the attempt before it.
         events = events_of(bench.record().replay, NAMES)
     (back,) = [event.words for event in events if event.kind == "restart"]
     assert back == "can0 is back on the bus, with both counts 0; it was off for 2.1 s, attempts 31 to 34"
@@ -170,7 +170,7 @@ def test_idle_attempts_are_steps_between_the_others():
     assert [KINDS[kind] for kind in kinds] == ["destroyed"] * 32 + ["idle", "restart"]
     assert column(header["steps"]["number"])[32] == 2
     assert column(header["tec"][0]) == [8 * k for k in range(1, 33)] + [256, 0]
-    # The numbers of steps in events are places in these columns.
+    # The step numbers in events are indices into these columns.
     assert [event[:3] for event in header["events"]][-1] == [33, "restart", 0]
     assert header["first"] == 31
 
@@ -180,13 +180,13 @@ def test_the_rule_of_an_attempt():
     header, column = data_of(page(bus_off(), NAMES, "run.rec", rules=rules))
     faults = [header["verdicts"][place] for place in column(header["steps"]["verdict"])]
     assert faults[:32] == ["global bit, by `next 31 from can0 global bit`"] * 31 + ["global bit"]
-    # The rules may cover fewer steps, if they come from a record that was cut off.
+    # If the rules are from a record that was cut off, there may be fewer of them than steps.
     header, _ = data_of(page(bus_off(), NAMES, "run.rec", rules=rules[:1]))
     assert header["verdicts"][:2] == ["global bit, by `next 31 from can0 global bit`", "global bit"]
 
 
 def rules_on(text):
-    """Returns the rule of each row on a page, or the empty text if the row has no rule."""
+    """Returns the rule of each row on a page. If a row has no rule, the string is empty."""
     header, column = data_of(text)
     verdicts = [header["verdicts"][place] for place in column(header["steps"]["verdict"])]
     return [verdict.partition(", by ")[2].strip("`") for verdict in verdicts]
@@ -230,7 +230,7 @@ def test_items_say_what_became_of_them():
         "taken",
         "dropped",
     ]
-    # The first frame stayed in its queue until the second step was over.
+    # The first frame stayed in the queue until the end of the second step.
     assert column(header["items"]["end"])[0] == 2
     header, column = data_of(page(run, NAMES, "run.rec", most_items=1))
     assert (column(header["items"]["step"]), header["itemsInAll"]) == ([0], 2)
@@ -244,7 +244,7 @@ def test_no_title_ends_the_data():
 
 
 def luminance(colour):
-    """Returns the relative luminance of a colour, by the definition of WCAG 2."""
+    """Returns the relative luminance of a colour, as defined by WCAG 2."""
     digits = "".join(2 * digit for digit in colour[1:]) if len(colour) == 4 else colour[1:]
     parts = [int(digits[k : k + 2], 16) / 255 for k in (0, 2, 4)]
     red, green, blue = [part / 12.92 if part <= 0.03928 else ((part + 0.055) / 1.055) ** 2.4 for part in parts]

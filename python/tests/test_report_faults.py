@@ -1,4 +1,4 @@
-"""The faults for `canbusd report`: files next to the record, and files that are named."""
+"""The faults that `canbusd report` uses: from files next to the record, and from files that the user names."""
 
 import argparse
 import contextlib
@@ -13,7 +13,7 @@ from forked import forked
 from test_report import data_of, rules_on
 
 RULE = "next 1 from a lastbit"
-# Wrong fault files, and the program's words for the errors.
+# Wrong fault files, and the program's error messages for them.
 WRONG = [
     (b"next 1 globul bit\n", "script line 1: bad line: `next 1 globul bit`; after next N"),
     (b"# a comment\n5 globul bit\n", "script line 2: bad line: `5 globul bit`; "),
@@ -26,8 +26,9 @@ WRONG = [
 
 @pytest.fixture
 def reported(tmp_path):
-    """A function that makes the page of a run, and returns the status, the page and the messages of the command. In the run, a rule
-    gives a's first frame a fault in the last bit. b and c never send, so the log does not have their names."""
+    """A function that creates the page of a run, and returns the command's exit status, the page and the messages. In
+    the run, a rule causes a fault in the last bit of a's first frame. b and c never send, so their names are not in the
+    log."""
 
     def reported(*words, names="a,b", **more):
         if not (tmp_path / "a.log").exists():
@@ -35,7 +36,7 @@ def reported(tmp_path):
                 bench.open("a").send(0x123)
                 assert [bench.attempt().outcome for _ in range(2)] == ["lastbit", "done"]
         status, page, said = forked("report", *words, cwd=tmp_path, **more)
-        # The line about interfaces without names has nothing to do with faults.
+        # The message about interfaces without names is removed, because it does not concern faults.
         return status, page, "".join(line for line in said.splitlines(True) if ": no log names " not in line)
 
     return reported
@@ -43,7 +44,8 @@ def reported(tmp_path):
 
 @pytest.fixture
 def ruled(reported):
-    """A function that makes the same page, and returns the rules of the attempts and the command's messages."""
+    """A function that creates the same page as `reported`, and returns the rules of the attempts and the command's
+    messages."""
 
     def ruled(*words, **more):
         status, page, said = reported(*words, **more)
@@ -59,7 +61,7 @@ def test_the_rule_where_not_all_names_are_known(ruled, tmp_path):
 
 
 def test_the_faults_beside_a_record(ruled, tmp_path):
-    """The page has the rules that a server leaves, and the rules that were added during the run."""
+    """The page shows the rules from the server's faults file, and the rules that were added during the run."""
     assert ruled("a.rec") == (["", ""], "")
     (tmp_path / "a.rec.faults").write_text(f"5 good\nat 0 {RULE}\nat 1 always good\n")
     assert ruled("a.rec") == ([RULE, "always good"], "")
@@ -68,7 +70,7 @@ def test_the_faults_beside_a_record(ruled, tmp_path):
 
 
 def test_the_faults_beside_a_record_that_is_cut_off(ruled, tmp_path):
-    """If the run continues or the server was killed, the last line of the faults may be incomplete."""
+    """The last line of the faults may be incomplete if the run is still going on or the server was killed."""
     assert ruled("a.rec") == (["", ""], "")
     text = (tmp_path / "a.rec").read_text()
     (tmp_path / "a.rec.new").write_text(text.rpartition("end ")[0])
@@ -82,15 +84,15 @@ def test_the_faults_beside_a_record_that_is_cut_off(ruled, tmp_path):
 
 @pytest.mark.parametrize("name", ["my.new", "my.cut", "my"])
 def test_a_script_without_a_last_line_feed(ruled, tmp_path, name):
-    """A script without a final newline is complete, whatever its name is."""
+    """A script without a final newline is complete, whatever the file is called."""
     (tmp_path / name).write_text(RULE)
     assert ruled("--faults", name, "a.rec") == ([RULE, ""], "")
 
 
 @pytest.mark.parametrize("text, fault", WRONG)
 def test_faults_that_are_wrong(reported, tmp_path, text, fault):
-    """If the faults are wrong, the page has no rules. If the user has named the file, the command fails with the file's name and
-    the program's words."""
+    """If the faults are wrong, the page has no rules. If the user has named the file, the command fails with the file
+    name and the program's error message."""
     assert reported("a.rec")[0] == 0
     (tmp_path / "a.rec.faults").write_bytes(text)
     status, page, said = reported("a.rec")
@@ -117,7 +119,7 @@ def test_faults_that_can_not_be_opened(tmp_path, monkeypatch, capsys):
 
 @contextlib.contextmanager
 def piped(text):
-    """The path of a pipe that holds this text."""
+    """The path of a pipe that contains this string."""
     reads, writes = os.pipe()
     os.write(writes, text.encode())
     os.close(writes)
@@ -146,14 +148,15 @@ def test_a_bare_cr_begins_no_rule(ruled, tmp_path):
 
 
 def test_the_one_interface_without_a_name(reported, tmp_path):
-    """If one interface has no name, it gets the remaining name in the faults."""
+    """If exactly one interface has no name, the remaining name from the faults is given to it."""
     assert reported("a.rec")[0] == 0
     rule = "next 1 from a,b lastbit"
     (tmp_path / "a.rec.faults").write_text(f"# from c\n5 local crc b\n{rule}\nat 1 always id 7DF local crc a,b\n")
     status, page, said = reported("a.rec")
     assert (status, rules_on(page), said) == (0, [rule, ""], "")
     assert data_of(page)[0]["names"] == ["a", "b"]
-    # Both runs of a comparison have the same names, because the other run may have no faults.
+    # In a comparison, the name from the faults is not used, because the other run may have no faults. So both runs have
+    # the same names.
     _, page, said = reported("a.rec", "a.rec")
     header, _ = data_of(page)
     assert (rules_on(page), header["names"], said) == ([rule, ""], ["a", "interface 1"], "")
@@ -162,8 +165,8 @@ def test_the_one_interface_without_a_name(reported, tmp_path):
 
 @pytest.mark.parametrize("names, rule", [("a,b,c", "always from a,b lastbit"), ("a,b", "always from b,c lastbit")])
 def test_interfaces_whose_names_are_not_known(reported, ruled, tmp_path, names, rule):
-    """If two interfaces have no name, or one interface has two, the page has no rules. If the user has asked for the faults, the
-    command fails."""
+    """If two interfaces have no name, or there are two names for one interface, the page has no rules. If the user has
+    asked for the faults, the command fails."""
     assert reported("a.rec", names=names)[0] == 0
     (tmp_path / "a.rec.faults").write_text(f"{RULE}\n{rule}\n")
     nameless = ",".join(["a", "interface-1", "interface-2"][: names.count(",") + 1])
@@ -173,14 +176,14 @@ def test_interfaces_whose_names_are_not_known(reported, ruled, tmp_path, names, 
     if names == "a,b,c":
         assert ruled("--names", names, "a.rec") == ([RULE, ""], "")
         return
-    # --names does not help here, so the message does not mention it.
+    # --names would not help here, so the error message does not mention it.
     _, said = ruled("--names", names, "a.rec")
     assert said.endswith(f"`{rule}`; c is none of a,b\n")
 
 
 @pytest.mark.parametrize("words", [[], ["--faults", "a.rec.faults.new"]])
 def test_a_server_that_ends_while_its_page_is_made(ruled, tmp_path, monkeypatch, capsys, words):
-    """The server renames the record and its faults while the page is made."""
+    """The server renames the record and the faults file while the page is being created."""
     assert ruled("a.rec") == (["", ""], "")
     monkeypatch.chdir(tmp_path)
     (tmp_path / "a.rec.faults").write_text("of another run\n")

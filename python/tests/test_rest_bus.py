@@ -1,5 +1,5 @@
-"""The rest bus sends the frames of the other nodes in rest.dbc, on a bench and on a server. The bytes of the frames were worked out
-by hand."""
+"""The rest bus sends the frames of the other nodes in rest.dbc, on a bench and on a server. The expected bytes were
+computed by hand."""
 
 import gc
 import signal
@@ -40,7 +40,7 @@ def rest_of(bench, **more):
 
 
 def sent(session, identifier):
-    """Returns the data of the frames with this identifier that a session has received, in hexadecimal."""
+    """Returns the data of all frames with this identifier that a session has received, in hexadecimal."""
     return [frame.data.hex() for frame in session.receive() if frame.arbitration_id == identifier]
 
 
@@ -77,7 +77,7 @@ def test_the_start_delay_of_the_file(bench):
     ecu = bench.open("ecu", [{"can_id": STATUS, "can_mask": 0x7FF}])
     with rest_of(bench) as rest:
         rest.run(until=0.1)
-    # The frame starts at 35 ms. With 2 data bytes it has 62 bits, of 2 us each, and at most 12 stuff bits.
+    # The frame starts at 35 ms. With 2 data bytes it has 62 bits and at most 12 stuff bits, each of 2 microseconds.
     [frame] = ecu.receive()
     assert 0.035 + 62 * 2e-6 - 10e-6 <= frame.timestamp <= 0.035 + 74 * 2e-6
 
@@ -127,7 +127,7 @@ def test_values_that_are_none(bench, node, name, value, said):
 def test_multiplexed_signals(bench):
     ecu = bench.open("ecu")
     rest = rest_of(bench)
-    # Each of these signals is sent if the multiplexer selects it.
+    # These two signals are set. Each is sent if the multiplexer selects it.
     rest["Gateway"]["Left"], rest["Gateway"]["Right"] = -1, 10
 
     def turn(message):
@@ -151,9 +151,9 @@ def test_counters_and_checksums(bench):
     rest.on_send("EngineData", protect)
     with rest:
         rest.run(until=0.18)
-        # The checksum is 80 + 0C = 8C.
+        # The checksum is 80 + 0C = 8C in hexadecimal.
         assert sent(ecu, DATA) == [f"800c00000000{0x8C:02x}{count % 16:02x}" for count in range(18)]
-        # The value that the function sets goes only into that frame.
+        # The value that the function sets is used only for that frame.
         assert rest["Engine"]["EngineData.Counter"] == 0
         rest.on_send("EngineData", None)
         rest.run(until=0.19)
@@ -204,7 +204,7 @@ def test_an_event(bench):
     ecu = bench.open("ecu")
     with rest_of(bench) as rest:
         rest.run(until=0.2)
-        # The message has a cycle time, but by its send type it is only sent on events.
+        # The message has a cycle time, but its send type says that it is sent only on events.
         assert sent(ecu, EVENT) == []
         rest.send("GatewayEvent", {"Key": 7})
         rest.send("GatewayEvent")
@@ -222,7 +222,7 @@ def test_a_table_over_time(bench):
         rest.run(until=0.08)
         with pytest.raises(DatabaseError, match="^EngineData.EngineSpeed is a number, not 'fast'$"):
             rest["Engine"].play("EngineSpeed", [(0, 1), (1, "fast")])
-    # These are 1000, 2000, 0 and 16 rpm times 4, lowest byte first. A new table replaces the one before.
+    # These are 1000, 2000, 0 and 16 rpm times 4, least significant byte first. A new table replaces the previous one.
     speeds = [data[:4] for data in sent(ecu, DATA)]
     assert speeds == ["a00f", "a00f", "401f", "401f", "0000", "0000", "0000", "4000"]
 
@@ -246,7 +246,7 @@ def test_what_a_bench_refuses_is_counted():
         with bench.rest_bus(REST, without="ECU", interface="can0") as rest:
             rest.run(until=0.2)
             counts = rest.counts()
-            # After bus off, no further frame is accepted.
+            # After bus off, no more frames are accepted.
             assert counts.refused > 20 and counts.accepted + counts.refused == 20 + 2 + 10
             with pytest.raises(Refused, match="^bus off$"):
                 rest.send("GatewayEvent")
@@ -286,12 +286,12 @@ def test_a_log_as_input(bench, tmp_path):
         (tmp_path / "other.log").write_text("(100.001000) a 123#0000\n")
         with pytest.raises(ValueError, match="other.log: no frame of it is one of the rest bus$"):
             rest.replay(tmp_path / "other.log")
-    # The replay leaves out the ECU's frames, and frames without a sender.
+    # The replay omits the ECU's frames, and frames without a sender.
     assert [text for text, _ in frames] == ["100#0102030405060708", "300#000000", "100#0807060504030201"]
     assert frames[2][1] - frames[0][1] == pytest.approx(0.05, abs=30e-6)
 
 
-# The following tests use a server in real time. The machine may be busy, so they check times only roughly.
+# The following tests use a server in real time. They check times only roughly, because the machine may be busy.
 
 
 @pytest.fixture
@@ -302,7 +302,7 @@ def car():
 
 
 def live(server, **more):
-    """The rest bus of a server."""
+    """Returns the rest bus of a server."""
     return server.rest_bus(REST, without=["ECU"], nodes={"Engine": "engine", "Gateway": "gateway"}, **more)
 
 
@@ -317,7 +317,7 @@ def test_a_server(car):
         car.expect(id=EVENT, data=b"\x09", within=WAIT)
         rest.stop()
         accepted = rest.counts().accepted
-    # The log has every accepted frame, with its sender's interface.
+    # The log contains every accepted frame, with the interface of its sender.
     log = car.log()
     assert len(log) == accepted == rest.counts().accepted
     assert {(message.channel, message.arbitration_id) for message in log} == {
@@ -345,7 +345,7 @@ def test_its_periods_do_not_drift(car):
         car.wait_for(lambda: sum(rest.counts("EngineData")[::2]) >= 50, timeout=WAIT)
         rest.stop()
         log = [message.timestamp for message in car.log() if message.arbitration_id == DATA]
-    # Even on a busy machine, each frame is sent after its due time, and in the right order.
+    # Even on a busy machine, each frame is sent no earlier than it is due, and in the right order.
     assert len(log) >= 2 and log[0] == first
     cycles = [round((moment - log[0]) / 0.01 - 0.25) for moment in log]
     assert all(later >= earlier for earlier, later in zip(cycles, cycles[1:]))
@@ -362,7 +362,7 @@ def test_a_fault_of_a_function_is_raised_at_the_end(car):
             car.wait_for(lambda: rest._fault, timeout=WAIT)
             with pytest.raises(KeyError, match="EngineData"):
                 rest["Engine"]["EngineSpeed"] = 1
-    # The first error of a function is raised.
+    # An error that the block itself raises takes precedence over the function's error.
     rest = live(car)
     rest.on_send("EngineData", fail)
     with pytest.raises(ZeroDivisionError):
@@ -410,7 +410,7 @@ def test_a_counter_counts_the_frames_that_were_sent(bench):
     with rest_of(bench) as rest:
         rest.on_send("EngineData", count)
         rest.run(until=0.03)
-        # The next 32 attempts fail, and the engine goes bus off. Its later frames are refused.
+        # The next 32 attempts of the engine fail, and it goes bus off. Its later frames are refused.
         bench.inject(Faults().next(32, sender="engine").destroyed())
         rest.run(until=0.1)
         assert engine.status().state == "off" and rest.counts("EngineData").refused > 3
@@ -421,7 +421,7 @@ def test_a_counter_counts_the_frames_that_were_sent(bench):
         assert counted[-1] == counts.accepted - 1 < len(counted) - 1
     counters = [int(data[14:], 16) for data in sent(ecu, DATA)]
     accepted = [number % 16 for number in range(counts.accepted)]
-    # Only the frames that were in the queue at bus off are missing.
+    # Only frames that were in the queue at bus off are missing.
     assert 1 <= len(accepted) - len(counters) <= lost and set(counters) < set(accepted)
     assert counters[-4:] == accepted[-4:]
 
@@ -444,7 +444,7 @@ def test_threads_set_values(car):
 
 
 def command(server, *words):
-    """Runs the command on this server."""
+    """Returns the arguments that run `restbus` on this server."""
     return [sys.executable, "-m", "canbusd", "restbus", *map(str, words), "--address", server.address]
 
 
@@ -467,7 +467,7 @@ def test_the_command(car):
     finally:
         child.send_signal(signal.SIGINT)
         written, said = child.communicate(timeout=5 * WAIT)
-    # The number of frames depends on the speed of the machine.
+    # The number of frames depends on how fast the machine is.
     assert child.returncode == 0 and said.startswith("canbusd restbus: ") and said.endswith(" skipped\n")
     lines = written.splitlines()
     assert lines[0] == "engine     EngineData 100 [8] from Engine, every 10 ms, NoMsgSendType"
@@ -513,7 +513,7 @@ def test_what_the_files_say(car):
     assert (done.returncode, done.stdout) == (0, f"{load_database(REST)}\n")
 
 
-# The following tests are about schedules: messages, and the times at which they are due.
+# The following tests are about schedules, which are messages and the times when they are due.
 
 
 def test_a_schedule():
@@ -532,7 +532,7 @@ def test_phases_keep_messages_apart():
     found = phases(cycles)
     assert all(0 <= phase < cycle for phase, cycle in zip(found, cycles))
     moments = sorted(due for phase, cycle in zip(found, cycles) for due in range(phase, 2_000_000, cycle))
-    # 2,620 frames are due per second, 2.6 per millisecond on average. No millisecond has more than 6.
+    # 2,620 frames are due per second, or 2.6 per millisecond on average. At most 6 are due in any millisecond.
     assert (
         max(
             sum(first <= due < first + 1000 for due in moments[place : place + 20])
@@ -550,7 +550,7 @@ def test_threads_take_turns_sooner_beside_a_rest_bus(car):
     before, frozen = sys.getswitchinterval(), gc.get_freeze_count()
     with live(car), live(car):
         if is_virtual():
-            # In virtual time no frame is late.
+            # In virtual time no frame is late, so nothing is changed.
             assert (sys.getswitchinterval(), gc.get_freeze_count()) == (pytest.approx(before), frozen)
         else:
             assert sys.getswitchinterval() == pytest.approx(INTERVAL) and gc.get_freeze_count() > frozen
@@ -564,7 +564,7 @@ def test_what_somebody_else_has_frozen_stays():
         frozen = gc.get_freeze_count()
         punctuality.begin()
         punctuality.end()
-        # Objects that are no longer used can be freed again.
+        # The count may be lower, because objects that are no longer used can be freed.
         assert 0 < gc.get_freeze_count() <= frozen
     finally:
         gc.unfreeze()

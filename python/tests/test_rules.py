@@ -1,5 +1,5 @@
-"""The grammar of fault rules, and the number of remaining rules. tests/bench/test_fault_rules.py in the repository tests the
-verdicts of rules."""
+"""The grammar of fault rules, and the number of remaining rules. The verdicts of rules are tested by
+tests/bench/test_fault_rules.py in the repository."""
 
 import pytest
 

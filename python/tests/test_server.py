@@ -1,4 +1,4 @@
-"""The class Server: its start, its end, and the files that it leaves."""
+"""The class Server: how it starts, how it ends, and which files it leaves."""
 
 import errno
 import fcntl
@@ -46,7 +46,7 @@ def test_what_a_server_leaves(tmp_path):
     assert (result.status, list(result.entries)) == (0, ["can0", "car0"])
     left = {"can0.log", "can0.rec", "can0.rec.faults", "car0.log", "car0.rec"}
     assert {path.name for path in tmp_path.iterdir()} == left
-    # After a fault in the last bit, the sender repeats a frame that the receiver already has.
+    # After a fault in the last bit, the sender repeats a frame that the receiver has already accepted.
     assert [(one.channel, one.arbitration_id) for one in server.log("can1")] == [("can0", 0x123)] * 2
     assert [attempt.outcome for attempt in server.record("can0").attempts] == ["lastbit", "done"]
     assert [(one.channel, bytes(one.data)) for one in server.log("car0")] == [("car1", b"\x11\x22")]
@@ -228,8 +228,8 @@ def test_the_options_reach_the_program():
 
 
 def follows(moments, lasts):
-    """Returns whether each timestamp follows the one before after this many microseconds, give or take the rounding. Larger gaps
-    are allowed, because a server that is more than 0.1 seconds late skips the missed time."""
+    """Returns whether the gaps between the timestamps are these numbers of microseconds, apart from rounding. Larger
+    gaps are allowed, because a server that is more than 0.1 seconds late skips the missed time."""
     gaps = [after - before for before, after in zip(moments, moments[1:])]
     return all(0 <= gap - span <= 1 or gap - span > 100_000 for gap, span in zip(gaps, lasts))
 
@@ -255,8 +255,8 @@ def test_the_bit_rates_reach_the_program(caplog):
 
 
 def test_each_bus_has_bit_rates_of_its_own():
-    """A bus gets its bit rate by the name of any of its interfaces, and None stands for all other buses. A bus without a rate has
-    no bit rate."""
+    """The bit rate of a bus is given by the name of any of its interfaces. The key None stands for all other buses. If
+    no rate applies to a bus, the bus has no bit rate."""
     frame, frames = message(1, b"\x55" * 4), 3
     rates = {"bitrate": {"body1": 5_000, "can0": 50_000}, "data_bitrate": {"can0": 500_000}}
     with Server("can0,can1", "body0,body1", "lin0,lin1", **rates) as server:
@@ -289,7 +289,8 @@ def test_a_number_for_all_others():
 
 
 def test_the_load_of_a_bus():
-    """The load of a full bus is 100 %, and that of an idle bus is 0 %. A frame counts with the bits of intermission after it."""
+    """The load of a full bus is 100 %, and that of an idle bus is 0 %. The bits of intermission after a frame are
+    counted too."""
     frame, size = message(1, bytes(8)), 500
     with Server("can0,can1", "car0", bitrate=50_000, txqueue=size) as server:
         with server.bus("can0") as can0, server.bus("can1", can_filters=NO_FRAMES) as can1, server.bus("car0") as car0:
@@ -327,7 +328,7 @@ def test_what_a_server_says_of_a_full_record():
 
 
 class UntilFull:
-    """A clock for deadlines that stands still until the record of a server is full."""
+    """A clock for deadlines that does not advance until the record of a server is full."""
 
     sleep = staticmethod(time.sleep)
 
@@ -340,8 +341,8 @@ class UntilFull:
 
 @pytest.mark.parametrize("sends", ["one", "many"])
 def test_a_record_that_fills_while_a_send_waits(monkeypatch, sends):
-    """If no frame is acknowledged, no frame leaves the queue, and each attempt is an entry. The record fills up while the counts
-    stay unchanged."""
+    """If no node acknowledges a frame, no frame leaves the queue, and every attempt adds an entry to the record. The
+    record fills up while the counts stay the same."""
     with Server("can0", ack="peers", limit=300, txqueue=2, observe=()) as server, server.bus("can0") as can0:
         clock = UntilFull(server)
         monkeypatch.setattr("canbusd._session.raw_session.time", clock)
@@ -355,7 +356,8 @@ def test_a_record_that_fills_while_a_send_waits(monkeypatch, sends):
 
 
 def test_what_is_expected_where_the_record_is_full():
-    """A full record ends all sending, so an expectation fails with `record full` and not because of a missing frame."""
+    """No frame can be sent once the record is full. So an expectation fails with `record full`, not because of a
+    missing frame."""
     with Server("can0,can1", limit=60) as server, server.bus("can0") as can0:
         with pytest.raises(can.CanOperationError, match="^record full"):
             for _ in range(60):
@@ -369,7 +371,7 @@ def test_what_is_expected_where_the_record_is_full():
             lambda: server.expect_no_frame(2, within=0),
             lambda: server.expect_no_change(1, within=0),
         ):
-            # The session may also have received this error, and then closed.
+            # The session may already have received this error and been closed.
             with pytest.raises((AssertionError, can.CanError), match=cure):
                 call()
 
@@ -397,7 +399,7 @@ def test_a_server_that_is_killed_leaves_nothing(tmp_path):
 
 
 def test_a_lock_file_that_is_let_go_a_moment_later(tmp_path, monkeypatch):
-    """A launcher may end before its server by the same signal. The lock file is still removed."""
+    """The launcher may be ended by the same signal before its server ends. The lock file is removed even then."""
     monkeypatch.setattr(lock_file, "CLOSING", WAIT)
     file = (tmp_path / lock_file.NAME).open("wb")
     fcntl.flock(file, fcntl.LOCK_EX)
@@ -408,7 +410,7 @@ def test_a_lock_file_that_is_let_go_a_moment_later(tmp_path, monkeypatch):
 
 
 def test_the_lock_file_of_another_server(tmp_path):
-    """The lock file of a running server stays, and so does a link or a file with content."""
+    """The lock file of a running server is not removed, and neither is a link or a file that is not empty."""
     lock = tmp_path / lock_file.NAME
     with Server("can0", out=tmp_path):
         with pytest.raises(ServerError, match="another server writes to it"):
@@ -448,8 +450,8 @@ def test_files_and_processes_are_gone_in_the_end():
 @pytest.mark.parametrize("how", ["os.kill(os.getpid(), 9)", "raise KeyboardInterrupt"])
 @pytest.mark.parametrize("observe, entries", [((), 0), (None, 8)])
 def test_the_end_of_its_process_ends_a_server(tmp_path, how, observe, entries):
-    """If the process ends, its server ends too. Each of the two observing sessions makes four entries: an open, two options and a
-    close."""
+    """A server ends when the process that started it ends. Each of the two observing sessions adds four entries to the
+    record: an open, two options and a close."""
     (tmp_path / "out").mkdir()
     program = f"""
 import os
@@ -460,7 +462,7 @@ server = Server("can0,can1", out={str(tmp_path / 'out')!r}, observe={observe!r})
     package = str(Path(canbusd.__file__).parents[1])
     environment = {**os.environ, "PYTHONPATH": package, "TMPDIR": str(tmp_path)}
     subprocess.run([sys.executable, "-c", program], env=environment, capture_output=True, timeout=WAIT, check=False)
-    # The server ends by itself, and leaves its log and its record.
+    # The server ends by itself, and writes its log and its record.
     record = tmp_path / "out" / "can0.rec"
     for _ in range(WAIT * 100):
         if record.exists() and record.read_text().endswith(f"end {entries}\n"):
@@ -482,7 +484,7 @@ def test_a_forked_process_keeps_no_server_from_its_end(tmp_path):
         child.join(WAIT)
 
 
-# The code that a forked process runs, by what the process does.
+# The code that a forked process runs. The keys describe what the process does.
 FORKED = {
     "it exits": "sys.exit()",
     "it raises": "raise KeyError",
@@ -495,7 +497,7 @@ FORKED = {
 }
 
 
-# A bench has no kill(), and no buses besides its own.
+# A bench has no kill(), and no separate bus objects.
 OF_A_SERVER = ("it kills it", "it drops a bus")
 
 
@@ -558,7 +560,8 @@ def test_a_server_that_many_threads_stop(server):
 
 @pytest.fixture
 def launcher(tmp_path):
-    """The bin/ folder of an installation: its script starts the program, the launcher of servers, and Python's commands."""
+    """The bin/ folder of an installation. Its script starts the program, the launcher of servers, and the Python
+    commands."""
     place = tmp_path / "libexec" / "canbusd"
     place.mkdir(parents=True)
     (tmp_path / "bin").mkdir()
@@ -591,7 +594,7 @@ def test_the_launcher(launcher, monkeypatch, found_by):
         states = subprocess.run(
             ["ps", "-o", "stat=", "-s", str(group)], capture_output=True, text=True, check=False
         ).stdout
-        # The processes may stay zombies, if no process waits for them.
+        # The processes may remain as zombies if no process waits for them.
         if all(state.startswith("Z") for state in states.split()):
             break
         time.sleep(0.01)
@@ -600,7 +603,8 @@ def test_the_launcher(launcher, monkeypatch, found_by):
 
 
 def test_programs_with_can_sockets(server, pair):
-    """Unchanged programs with CAN sockets work, by run(), by environment(), and with faults in the programs."""
+    """Unmodified programs with CAN sockets work with run() and with environment(). The exit status and the error output
+    of a failed program are returned."""
     can0, can1 = pair
     send = "import socket, struct; s = socket.socket(29, 3, 1); s.bind(('can0',)); s.send(struct.pack('=IB3x8s', 0x123, 1, b'a'))"
     done = server.run([sys.executable, "-c", send], check=True, capture_output=True, text=True)

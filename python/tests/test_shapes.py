@@ -1,4 +1,5 @@
-"""Shapes of signals: their values follow the definitions, on a bench at exact times and on a server by expectations."""
+"""Signal shapes. The values follow the definitions: on a bench at exact times, and on a server as checked by
+expectations."""
 
 import math
 
@@ -33,7 +34,8 @@ def dbc(tmp_path):
 
 
 def played(dbc, signal, *shape, until=0.1):
-    """Returns the values of a signal on a bench. A frame is sent every 10 milliseconds, the first 6 milliseconds after the start.
+    """Returns the values of a signal on a bench. Frames are sent every 10 milliseconds, starting 6 milliseconds after
+    the beginning.
     """
     database = load_database(dbc)
     with Bench("engine,ecu", bitrate=500_000) as bench:
@@ -45,7 +47,7 @@ def played(dbc, signal, *shape, until=0.1):
             return [database.decode(frame).value(signal) for frame in ecu.receive()]
 
 
-#: The times of the frames, in seconds.
+#: The times at which the frames are sent, in seconds.
 MOMENTS = [0.006 + 0.01 * number for number in range(10)]
 
 
@@ -104,7 +106,7 @@ def test_limits_of_the_database(dbc):
     for shape in (shapes.ramp(0, 160), shapes.sine(-41, 0), shapes.table([(0, 0), (1, 151)])):
         with pytest.raises(DatabaseError, match="Temperature is from -40 to 150, not "):
             played(dbc, "Temperature", shape)
-    # The file gives no limits for this signal, so the limits are those of a signed 16-bit number.
+    # The DBC file gives no limits for this signal, so the limits are those of a signed 16-bit integer.
     assert played(dbc, "Free", shapes.square(period=0.04))[:3] == [-32768, -32768, 32767]
 
 
@@ -123,7 +125,7 @@ def test_what_comes_last_counts(dbc):
 def test_what_a_server_expects(dbc):
     with Server("engine,ecu", bitrate=500_000, database=dbc) as server:
         with server.rest_bus(dbc, interface="engine") as rest:
-            # Frames of a server are late on a busy machine, but those of a bench have exact times.
+            # On a busy machine a server's frames are late, but the frames of a bench have exact times.
             ramp = shapes.ramp(800, 3200, seconds=1)
             rest["Engine"].play("EngineSpeed", ramp)
             values = server.expect_signal("EngineSpeed", shape=ramp, late=0.5, within=WAIT)

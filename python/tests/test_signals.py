@@ -1,5 +1,5 @@
-"""Signals by name: the content of frames by a DBC file, with each library and in each file format. The expected bytes were worked
-out by hand."""
+"""Signals by name: frames are encoded and decoded with a DBC file, with every library and in every file format. The
+expected bytes were computed by hand."""
 
 import subprocess
 import sys
@@ -17,7 +17,8 @@ from test_report import data_of
 
 CAR = Path(__file__).with_name("car.dbc")
 LIBRARIES = {"cantools": "cantools is not installed (pip has it, Debian 12 does not)", "canmatrix": "no canmatrix"}
-# speed is 1205 = 04B5, lowest byte first. temperature is 20 + 40 = 3C, gear is 3, and torque is -20 = FFEC, highest byte first.
+# speed is 1205 = 04B5, least significant byte first. temperature is 20 + 40 = 3C, gear is 3, and torque is -20 = FFEC,
+# most significant byte first.
 DRIVES = "123#B5043C03FFEC0000"
 
 
@@ -30,12 +31,12 @@ def library(request):
 
 @pytest.fixture
 def car(library):
-    """The database of the file."""
+    """The database from the file car.dbc."""
     return load_database(CAR, library=library)
 
 
 def decoded(database, text):
-    """Returns the decoded frame."""
+    """Returns the decoded frame as a string, or None."""
     found = database.decode(Frame.parse(text))
     return None if found is None else str(found)
 
@@ -51,7 +52,7 @@ def test_what_a_frame_says(car):
     )
     assert [type(signal.value) for signal in found.signals] == [float, int, str, int]
     assert str(found) == "Engine: speed=120.5 km/h, temperature=20 degC, gear=Drive, torque=-10 Nm"
-    # This number of gear has no name.
+    # This value of the signal gear has no name.
     assert decoded(car, "123#0000000600000000").endswith("gear=6, torque=0 Nm")
 
 
@@ -81,7 +82,7 @@ def test_frames_that_the_file_does_not_know(car):
 def test_the_frame_of_signals(car):
     values = {"speed": "120.5", "temperature": 20, "gear": "Drive", "torque": -10.0}
     assert str(car.encode("Engine", values)) == DRIVES
-    # A signal that is not given has its initial value: 65 for temperature.
+    # If no value is given for a signal, its initial value is used: 65 for temperature.
     assert str(car.encode("Engine", {"gear": 1})) == "123#0000410100000000"
     assert str(car.encode("Pages", {"page": 1, "right": "10"})) == "200#0105"
     assert str(car.encode("Request", {"service": "0x22"})) == "18DAF110#220000"
@@ -108,7 +109,7 @@ def test_a_value_out_of_range(car):
         car.encode("Engine", {"temperature": 216})
 
 
-# canmatrix converts the file to this format. In ARXML messages get other names, and units and signs are lost.
+# canmatrix converts the DBC file to this format. In ARXML, messages get other names, and units and signs are lost.
 @pytest.mark.parametrize(
     "ending, line",
     [

@@ -1,5 +1,5 @@
-"""Strategies of Hypothesis: their frames can be sent, the program accepts their fault plans, and failing examples shrink to simple
-ones."""
+"""Strategies for Hypothesis. The generated frames can be sent, the program accepts the generated fault plans, and
+failing examples shrink to simple ones."""
 
 import pytest
 

@@ -1,4 +1,4 @@
-"""Cyclic frames, orders and changes on a running server. test_judged.py tests the rules that decide them."""
+"""Cyclic frames, sequences and changes on a running server. test_judged.py tests the rules by which they are judged."""
 
 import re
 import threading
@@ -21,7 +21,7 @@ def can0(server):
 
 @pytest.fixture
 def car_server():
-    """A server with a database, read by any library that is installed."""
+    """A server with a database. Any DBC library that is installed reads it."""
     pytest.importorskip("canmatrix")
     with Server("ecu,tester", database=CAR) as running, running.bus("ecu") as ecu:
         yield running, ecu
@@ -32,21 +32,21 @@ def engine(database, **values):
 
 
 def test_a_cyclic_message(server, can0):
-    """The returned gaps are those in the log of the server."""
+    """The returned gaps are the same as in the server's log."""
     for _ in range(5):
         can0.send(message(0x100))
         can0.send(message(0x200))
     gaps = server.expect_cyclic(0x100, period=10, tolerance=10, count=4, within=WAIT)
-    # The fifth frame was the last one, and it is taken.
+    # The fifth frame was the last one, and it has been taken.
     server.expect_no_frame(id=0x100, within=0)
     moments = [round(one.timestamp * 1e6) for one in server.log() if one.arbitration_id == 0x100]
     assert [round(gap * 1e6) for gap in gaps] == [after - before for before, after in zip(moments, moments[1:])]
 
 
 def bit_times(identifier):
-    """Returns the number of bits of a data frame without data, from start of frame to the end of intermission, by ISO 11898-1: with
-    CRC and stuff bits."""
-    # These are the start of frame, the identifier, RTR, IDE, a reserved bit and four bits of the DLC.
+    """Returns the number of bits in a data frame without data bytes, from the start of frame to the end of the
+    intermission. The CRC and the stuff bits are included, according to ISO 11898-1."""
+    # These bits are the start of frame, the identifier, RTR, IDE, a reserved bit and the four bits of the DLC.
     bits, crc = f"0{identifier:011b}0000000", 0
     for bit in bits:
         crc = ((crc << 1) ^ (0x4599 if crc >> 14 != int(bit) else 0)) & 0x7FFF
@@ -56,7 +56,7 @@ def bit_times(identifier):
         last = bit
         if run == 5:
             stuffed, run, last = stuffed + 1, 1, "10"[int(bit)]
-    # After the CRC come its delimiter, the ACK slot and its delimiter, the end of frame and the intermission.
+    # The CRC is followed by its delimiter, the ACK slot, the ACK delimiter, the end of frame and the intermission.
     return len(bits) + 15 + stuffed + 1 + 2 + 7 + 3
 
 
@@ -70,7 +70,7 @@ def test_a_cyclic_message_on_a_wire():
 
 def test_each_wrong_gap_is_reported():
     with Server("can0,can1", bitrate=10_000) as server, server.bus("can0") as can0:
-        # A frame of another node delays the third frame, and another one the fifth.
+        # The third and the fifth frame 555 are delayed by frames 2AA.
         can0.send_many([message(number) for number in (0x555, 0x555, 0x2AA, 0x555, 0x555, 0x2AA, 0x555)])
         period, other = bit_times(0x555), bit_times(0x2AA)
         with pytest.raises(AssertionError) as failure:
@@ -89,7 +89,7 @@ def test_cyclic_frames_that_end(server, can0):
         AssertionError, match=r"^no frame 100 every 5 seconds, give or take 5: came 3 of 11 times within 0.3 "
     ):
         server.expect_cyclic(0x100, 5, 5, within=0.3)
-    # A failed expectation takes no frames.
+    # An expectation that fails does not take any frames.
     assert len(server.expect_cyclic(0x100, 5, 5, count=2, within=0)) == 2
 
 
@@ -117,7 +117,7 @@ def test_a_sequence(server, can0):
     can0.send_many([message(0x100), message(0x7FF), message(0x101, [5]), message(0x102)])
     found = server.expect_sequence(0x100, {"id": 0x101, "data": b"\5"}, within=WAIT)
     assert [one.arbitration_id for one in found] == [0x100, 0x101]
-    # Frames after the last step are not taken.
+    # Frames after the last step of the sequence are not taken.
     server.expect_sequence(0x102, within=WAIT)
 
 
@@ -167,7 +167,7 @@ def test_what_does_not_change(server, can0):
     can0.send(message(0x100, [2]))
     with pytest.raises(AssertionError, match=r"^frame 100 changed from 01 to 02: \(\d+\.\d+\) can1 100#02\n"):
         server.expect_no_change(0x100, within=WAIT)
-    # The comparison starts with the last expected frame, and no frame follows that one.
+    # The comparison starts with the frame that was expected last. No frame follows that one.
     server.expect(0x100, b"\2", within=WAIT)
     server.expect_no_change(0x100, within=0)
     with pytest.raises(ValueError, match="needs an id or a signal"):
@@ -197,7 +197,7 @@ def test_signals(car_server):
     with pytest.raises(AssertionError, match="^signal gear changed from Drive to Reverse: "):
         server.expect_no_change(signal="gear", within=WAIT)
     server.expect_no_frame(signal="speed", below=500, within=0)
-    # A misspelt name is an error, even if a missing frame would pass.
+    # A misspelt signal name is an error, even though the test would pass if no frame arrived.
     with pytest.raises(DatabaseError, match="^no signal sped; there are speed, "):
         server.expect_no_frame(signal="sped", above=0, within=0)
     with pytest.raises(DatabaseError, match="^no signal sped; there are speed, "):
@@ -208,8 +208,8 @@ def test_signals(car_server):
 
 
 def test_a_failure_shows_the_signals_that_were_asked_for(car_server):
-    """A failure shows the signals. The frame's speed of 2000 is 20000 by its factor, 4E20. temperature starts as 25, which is 65,
-    and torque and gear start as 0."""
+    """A failure shows the values of the signals. The speed in the frame is 2000, which is 20000 or 4E20 as a raw value.
+    temperature has its initial value 25, which is 65 as a raw value, and torque and gear start at 0."""
     server, ecu = car_server
     ecu.send(engine(server.database, speed=2000))
     ecu.send(message(0x7FF))

@@ -1,4 +1,4 @@
-"""The sweep tries each fault at each attempt of a test. These tests run pytest on other tests."""
+"""A sweep tries each fault at every attempt of a test. These tests run pytest on other tests."""
 
 import json
 import os
@@ -24,7 +24,7 @@ from forked import forked
 pytest_plugins = ["pytester"]
 EXAMPLES = Path(__file__).resolve().parents[2] / "examples" / "sweep"
 
-# A test with an ECU that counts what it receives, so a frame that arrives twice is counted twice.
+# A test with an ECU that counts the frames that it receives, so a frame that arrives twice is counted twice.
 PRESSES = """
     def press(canbusd, count):
         with canbusd.bus("tester") as tester, canbusd.bus("ecu", error_frames=False) as ecu:
@@ -54,9 +54,9 @@ BENCH = """
 
 @pytest.fixture
 def sweep(pytester, monkeypatch):
-    """A function that runs pytest on tests with the options of a sweep, in another process with this package. It starts pytest in
-    the way in which a sweep restarts it, so that no second start is needed. Some tests are about the first start, and use pytest
-    itself.
+    """A function that runs pytest on tests with the options of a sweep, in another process that uses this package. It
+    starts pytest in the same way as a sweep would restart it, so that no restart is required. A few tests are about
+    this restart, and start pytest directly.
     """
     monkeypatch.setenv("PYTHONPATH", str(Path(canbusd.__file__).parents[1]), prepend=os.pathsep)
     monkeypatch.setenv("PYTHONDONTWRITEBYTECODE", "1")
@@ -73,7 +73,7 @@ def sweep(pytester, monkeypatch):
 
 
 def found(pytester):
-    """Returns the results of the sweep, by the name of each test."""
+    """Returns the results of the sweep, by test name."""
     tests = json.loads((pytester.path / "canbusd-sweep" / "sweep.json").read_text())["tests"]
     return {test["test"].partition("::")[2]: test for test in tests}
 
@@ -107,7 +107,7 @@ def test_a_frame_that_is_counted_twice(sweep, pytester):
 
 
 def test_a_placement_again(sweep, pytester):
-    """A placement that is run again, by its number or by its rule, leaves the same records as in the sweep."""
+    """If a placement is run again, selected by its number or its rule, the records are the same as in the sweep."""
     sweep(PRESSES, "--canbusd-sweep")
     places = [one for one in found(pytester)["test_presses"]["placements"] if one["rule"]]
     for place in [places[1], places[-1]]:
@@ -124,7 +124,7 @@ def test_a_found_fault_as_an_ordinary_test(sweep, pytester):
 
 
 def test_a_bench(sweep, pytester):
-    """A sweep of a bench needs no run in virtual time."""
+    """The sweep of a test with a bench does not require virtual time."""
     result = sweep(BENCH, "--canbusd-sweep")
     result.stdout.fnmatch_lines(["*::test_five: 5 attempts, 10 placements, 10 run, 5 failed"])
     test = found(pytester)["test_five"]
@@ -146,7 +146,7 @@ def test_known_failures(sweep):
 
 
 def test_a_frame_that_is_missed(sweep, pytester):
-    """A frame can be missed by one receiver. If that does not matter to any test, the sweep says so."""
+    """A frame can be missed by one receiver only. If no test notices this, the sweep reports it."""
     result = sweep(PRESSES, "--canbusd-sweep", "--canbusd-sweep-faults", "missed")
     result.stdout.fnmatch_lines(
         ["  missed by ecu 123 from tester: 3 of 3 placements fail", "    3 x call: *assert 2 == 3"]
@@ -172,7 +172,8 @@ OUTAGES = """
 
 
 def test_interfaces_that_are_down(sweep, pytester):
-    """A sender that goes down loses its queue. A frame that nobody acknowledges is sent again and counted."""
+    """A sender that goes down loses the frames in its queue. A frame that nobody acknowledges is sent again and
+    counted."""
     result = sweep(OUTAGES, "--canbusd-sweep", "--canbusd-sweep-check", "6")
     result.stdout.fnmatch_lines(
         [
@@ -184,10 +185,10 @@ def test_interfaces_that_are_down(sweep, pytester):
     said = {one["faults"][0].split()[0]: [] for one in found(pytester)["test_all_is_well"]["placements"]}
     for one in found(pytester)["test_all_is_well"]["placements"]:
         said[one["faults"][0].split()[0]].append(one["result"]["message"])
-    # After the third frame the tester stays down.
+    # After the third frame, the tester stays down.
     assert [re.search("assert ([0-9]+ == 3)", text)[1] for text in said["down"][:2]] == ["1 == 3", "2 == 3"]
     assert "state='down'" in said["down"][2]
-    # The missing acknowledgement adds 8, and each successful frame takes 1 off.
+    # The missing acknowledgement adds 8, and each successful frame subtracts 1.
     assert [re.search("tec=([0-9]+)", text)[1] for text in said["noack"]] == ["5", "6", "7"]
 
 
@@ -267,7 +268,7 @@ ANSWERED = """
 
 @pytest.mark.skipif(not shutil.which("gcc"), reason="no gcc")
 def test_programs_are_late_and_without_room(sweep, pytester):
-    """The ECU of the example is late, or its writes are refused, but its counter goes on."""
+    """The example's ECU is late or its writes are refused, but its counter still increases."""
     shutil.copytree(EXAMPLES, pytester.path / "sweep")
     sweep("    import subprocess, time\n" + ANSWERED, "--canbusd-sweep").stdout.fnmatch_lines(
         ["  late at ecu 123 from tester: 3 of 3 placements fail"]
@@ -275,41 +276,41 @@ def test_programs_are_late_and_without_room(sweep, pytester):
     words = ["-p", "canbusd.pytest_plugin", "-p", "no:cacheprovider", "-p", "no:xdist", "--canbusd-sweep"]
     words += ["--canbusd-sweep-faults", "full", "sweep", "-k", "gap"]
     pytester.runpytest_subprocess(*words).stdout.fnmatch_lines(
-        # The gap is not noticed at the first frame, which has no counter before it, and at the last two, which have no later frame
-        # in the test.
+        # The gap is not noticed at the first frame, because no counter value precedes it, nor at the last two frames,
+        # because no later frame follows in the test.
         ["  full 200 from ecu: 13 of 16 placements fail", "    13 x call: AssertionError: 2 after 0"]
     )
 
 
 @pytest.mark.skipif(not shutil.which("gcc"), reason="no gcc")
 def test_programs_miss_frames_and_are_reset(pytester, monkeypatch):
-    """The ECU of the example counts presses. It misses frames, and it forgets its count in a reset."""
+    """The example's ECU counts presses. It misses frames, and a reset clears the count."""
     monkeypatch.setenv("PYTHONPATH", str(Path(canbusd.__file__).parents[1]), prepend=os.pathsep)
     shutil.copytree(EXAMPLES, pytester.path / "sweep")
     plugins = ["-p", "canbusd.pytest_plugin", "-p", "no:cacheprovider", "-p", "no:xdist"]
     words = ["--canbusd-sweep", "--canbusd-sweep-faults", "missed,reset", "sweep", "-k", "press"]
     pytester.runpytest_subprocess(*plugins, *words).stdout.fnmatch_lines(
         [
-            # No test looks at the cyclic message.
+            # No test checks the cyclic message.
             "  not noticed: missed by tester 200 from ecu, 8 placements",
             "  missed by ecu 123 from tester: 7 of 7 placements fail",
             "    7 x call: assert 6 == 7",
-            # A reset loses the count, except before the first press.
+            # A reset clears the count, except before the first press.
             "  reset of program 0 123 from tester: 7 of 7 placements fail",
         ]
     )
 
 
 def test_quick(sweep, pytester):
-    """A quick sweep tries the first two, the middle and the last frame of an identifier. It tries all frames only if these results
-    differ."""
+    """A quick sweep tries the first two frames, the middle frame and the last frame with an identifier. It tries all
+    frames with the identifier only if the results of these differ."""
     many = BENCH.replace("0x100 + number", "0x100").replace("range(5)", "range(9)").replace("== 5", ">= 9")
     sweep(many, "--canbusd-sweep", "--canbusd-sweep-quick").stdout.fnmatch_lines(
         ["*: 9 attempts, 18 placements, 8 run, 0 failed", "18 placements, 8 run, 10 like those that were run; *"]
     )
     differs = many.replace(">= 9", "== 9")
     sweep(differs, "--canbusd-sweep", "--canbusd-sweep-quick").stdout.fnmatch_lines(
-        # Every duplicate frame makes the count wrong, so the four samples agree.
+        # Any duplicate frame makes the count wrong, so all four sampled frames have the same result.
         ["*: 9 attempts, 18 placements, 8 run, 4 failed"]
     )
     last = many.replace(">= 9", "== 9 or canbusd_bench.record().attempts[-2].outcome == 'lastbit'")
@@ -319,14 +320,14 @@ def test_quick(sweep, pytester):
 
 
 def joined(pytester, *names):
-    """Joins the results in these folders. Returns the status, the output lines and the errors of the command."""
+    """Joins the results in these folders. Returns the command's exit status, output lines and error output."""
     parts = (f"{name}/sweep.json" for name in names)
     status, written, said = forked("sweep", "--join", *parts, cwd=pytester.path)
     return status, written.splitlines(), said
 
 
 def test_parts_of_a_sweep(sweep, pytester):
-    """The parts of a sweep are disjoint. Together they find the same as the whole sweep."""
+    """The parts of a sweep have no placement in common. Together they find the same failures as the whole sweep."""
     whole = sweep(BENCH, "--canbusd-sweep").outlines
     expected = found(pytester)
     keys = []
@@ -347,7 +348,7 @@ def test_parts_of_a_sweep(sweep, pytester):
             assert not is_shown or place["result"]["outcome"] == "failed"
             del place["result"]["took"], place["result"]["long"]
         assert test["placements"] == other["placements"]
-    # A page stays in the folder of its part.
+    # A page stays in the folder of the part that created it.
     pages = json.loads((pytester.path / "canbusd-sweep" / "sweep.json").read_text())["tests"][0]["placements"]
     assert all((pytester.path / "canbusd-sweep" / place["page"]).exists() for place in pages)
 
@@ -369,7 +370,7 @@ def test_parts_that_do_not_fit(sweep, pytester):
 
 
 def test_a_limit_of_time(sweep, pytester):
-    """A sweep with a time limit reports the placements that were not run, and a resumed sweep runs them."""
+    """A sweep with a time limit reports which placements were not run. When the sweep is resumed, it runs them."""
     result = sweep(BENCH, "--canbusd-sweep", "--canbusd-sweep-time", "0")
     assert "not run" not in result.stdout.str() and result.ret == 0
     begun = sweep(BENCH, "--canbusd-sweep", "--canbusd-sweep-shard", "1/2")
@@ -383,7 +384,7 @@ def test_a_limit_of_time(sweep, pytester):
 
 
 def test_second_faults(sweep, pytester):
-    """A second fault finds a test that passes with one duplicate frame, but fails with two."""
+    """With a second fault, the sweep finds a test that passes with one duplicate frame but fails with two."""
     two = BENCH.replace("== 5", "<= 6").replace('["destroyed", "twice"]', '["twice"], pairs=20')
     sweep(two, "--canbusd-sweep").stdout.fnmatch_lines(["  twice, then twice *: * placements fail"])
     places = found(pytester)["test_five"]["placements"]
@@ -453,7 +454,7 @@ def test_a_fixture_with_a_thread(sweep):
 
 
 def test_a_sweep_that_is_killed(pytester, monkeypatch):
-    """A killed sweep leaves no process, and the next sweep resumes from its results."""
+    """A killed sweep leaves no processes, and the next sweep continues from the results of the killed one."""
     monkeypatch.setenv("PYTHONPATH", str(Path(canbusd.__file__).parents[1]), prepend=os.pathsep)
     mark = f"CANBUSD_SWEEP_TEST={os.getpid()}"
     monkeypatch.setenv(*mark.split("="))
@@ -485,7 +486,7 @@ def test_a_sweep_that_is_killed(pytester, monkeypatch):
     assert json.loads(results.read_text())["tests"][0]["base"]["outcome"] == "passed"
 
 
-# A script that sends two frames to a program. The program expects two, and gets three if one is duplicated.
+# A script that sends two frames to a program. The program expects two frames, but receives three if one is duplicated.
 TWO = """#!/bin/sh
 "$CANBUSD_RUN" "$PYTHON" node.py can1 >"$TMPDIR/got" &
 sleep 0.05
@@ -509,7 +510,7 @@ while not sys.argv[2:]:
 
 
 def test_a_command(pytester, monkeypatch):
-    """The status of the command is the verdict, and its programs find the server by their environment."""
+    """The command's exit status is the verdict. Its programs find the server through their environment."""
     monkeypatch.setenv("PYTHONPATH", str(Path(canbusd.__file__).parents[1]), prepend=os.pathsep)
     monkeypatch.setenv("CANBUSD_RUN", find_program("canbusd-run"))
     monkeypatch.setenv("PYTHON", sys.executable)
@@ -555,7 +556,7 @@ def test_words_of_the_command(words, said):
 
 
 def processes_with(mark):
-    """Returns the ids of all processes except this one that have this text in their environment."""
+    """Returns the ids of all processes except this one whose environment contains this string."""
     found = []
     for path in Path("/proc").glob("[0-9]*/environ"):
         try:
@@ -568,21 +569,21 @@ def processes_with(mark):
 
 @pytest.mark.skipif(not shutil.which("gcc"), reason="no gcc")
 def test_the_examples(pytester, monkeypatch):
-    """Each planted bug is found, at every placement that shows it."""
+    """The sweep finds every planted bug, at every placement where the bug shows."""
     monkeypatch.setenv("PYTHONPATH", str(Path(canbusd.__file__).parents[1]), prepend=os.pathsep)
     shutil.copytree(EXAMPLES, pytester.path / "sweep")
     plugins = ["-p", "canbusd.pytest_plugin", "-p", "no:cacheprovider", "-p", "no:xdist"]
     result = pytester.runpytest_subprocess(*plugins, "--canbusd-sweep", "sweep")
     result.stdout.fnmatch_lines(
         [
-            # Each of the seven frames shows the bug, and no other placement does.
+            # Each of the seven frames reveals the bug, and no other placement does.
             "*::test_a_press_counts_once: 22 attempts, 66 placements, 66 run, 7 failed",
             "  twice 123 from tester: 7 of 7 placements fail",
-            # The bug is not seen at the first frame, which has no counter before it, or at the last two, which are too late to be
-            # missed.
+            # The bug is not found at the first frame, because no counter value precedes it, nor at the last two frames,
+            # because they are too late for the test to notice.
             "*::test_the_counter_has_no_gap: 16 attempts, 64 placements, 64 run, 13 failed",
             "  busoff 200 from ecu: 13 of 16 placements fail",
-            # Only one request is so late at the gateway that it meets the next request.
+            # Only one request reaches the gateway so late that it collides with the next request.
             "*::test_each_request_is_answered: 16 attempts, 32 placements, 32 run, 1 failed",
             "  destroyed 100 from tester: 1 of 8 placements fail",
         ]
@@ -590,7 +591,8 @@ def test_the_examples(pytester, monkeypatch):
 
 
 def test_examples_and_recipes_hold(pytester, monkeypatch):
-    """All marked examples and recipes pass, apart from a known effect: a duplicate consecutive frame ends an ISO-TP transfer."""
+    """All marked examples and recipes pass, except for one known effect: a duplicate consecutive frame ends an ISO-TP
+    transfer."""
     monkeypatch.setenv("PYTHONPATH", str(Path(canbusd.__file__).parents[1]), prepend=os.pathsep)
     for name in ("recipes", "python"):
         shutil.copytree(EXAMPLES.parent / name, pytester.path / name)
@@ -607,14 +609,15 @@ def attempt(number, sender, frame, nth=0, nth_of_sender=0, errors=0, fault="good
 
 
 def test_rules_of_placements():
-    """A rule names a frame by its sender, its identifier and the number of equal frames before it."""
+    """A rule identifies a frame by its sender, its identifier and the number of frames with the same identifier before
+    it."""
     found = [attempt(0, "a", "123#"), attempt(1, "a", "123#", 1, 1), attempt(2, "b", "00000123#", 0, 0, 16)]
     rules = [(place.kind, str(place.faults[0]), place.as_rule()) for place in places_at(found, ["twice", "busoff"])]
     assert rules == [
         ("twice", "0 lastbit", "next 1 from a id 123 lastbit"),
         ("twice", "1 lastbit", "next 1 from a id 123 skip 1 lastbit"),
         ("twice", "2 lastbit", "next 1 from b id 00000123 lastbit"),
-        # Bus off is at 256, and each failed attempt adds 8 (ISO 11898-1).
+        # The sender is bus off at 256, and each failed attempt adds 8 (ISO 11898-1).
         ("busoff", "next 32 from a global bit", "next 32 from a global bit"),
         ("busoff", "next 32 from a skip 1 global bit", "next 32 from a skip 1 global bit"),
         ("busoff", "next 30 from b global bit", "next 30 from b global bit"),
@@ -622,7 +625,7 @@ def test_rules_of_placements():
 
 
 def test_outages_of_placements():
-    """A sender goes down just before the end of its frame. A receiver goes down just before the start."""
+    """A sender goes down just before the end of its frame. A receiver goes down just before the frame starts."""
     found = [
         replace(attempt(0, "a", "123#"), moment="5.000130", began="5.000000"),
         replace(attempt(1, "a", "123#", 1, 1), moment="6.000130", began="6.000000", is_alone=True),

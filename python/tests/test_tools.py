@@ -1,4 +1,4 @@
-"""python-can finds the interface by its entry point, and its own tools and helpers work with the interface."""
+"""python-can finds the interface by its entry point, and python-can's own tools and helpers work with the interface."""
 
 import asyncio
 import random
@@ -18,7 +18,7 @@ from canbusd.server import Server
 
 
 def tool(name, *words, env):
-    """Starts one of python-can's tools on can1."""
+    """Starts one of python-can's tools on the interface can1."""
     return subprocess.Popen(
         [sys.executable, "-m", f"can.{name}", "-i", "canbusd", "-c", "can1", *map(str, words)],
         env=env, stdin=subprocess.DEVNULL, stdout=subprocess.PIPE, stderr=subprocess.PIPE, text=True,
@@ -73,11 +73,11 @@ print({"can", "pytest"} & {*sys.modules})
 @pytest.mark.parametrize("ending, reader", [("asc", ASCReader), ("log", CanutilsLogReader)])
 def test_can_logger(installed, tmp_path, ending, reader):
     sent = [message(number % 0x800, number.to_bytes(2, "big")) for number in range(200)]
-    # In a candump log, python-can 4.1 omits the length of a remote frame.
+    # In candump logs, python-can 4.1 leaves out the length of a remote frame.
     sent += [message(0x12345, b"\x01", extended=True), message(0x123, is_remote_frame=True, dlc=0)]
     file = tmp_path / f"run.{ending}"
     with Server("can0,can1") as server:
-        # The tool hands unknown options on to the writer of the file.
+        # The tool passes unknown options on to the writer of the file.
         logger = tool(
             "logger", "-f", file, "--error-frames=False", env={**installed, "CANBUSD_ADDRESS": server.address}
         )
@@ -90,7 +90,7 @@ def test_can_logger(installed, tmp_path, ending, reader):
         server.stop()
         _, errors = logger.communicate(timeout=WAIT)
     assert errors.strip().endswith("CanOperationError: the server closed the connection")
-    # The file has the same frames as the record has for the first opened socket.
+    # The file contains the same frames as the record does for the socket that was opened first.
     taken = [item for item in server.record().items if item.socket == 0 and item.fate == "taken"]
     with reader(str(file)) as log:
         logged = [shape(one) for one in log]
@@ -108,7 +108,7 @@ def test_can_player(installed, tmp_path):
         for number in range(1000)
     ]
     with Server("can0,can1", pace_ms=0, txqueue=1024, rxqueue=65536) as server, server.bus("can0") as can0:
-        # Each burst fits into the transmit queue, because the player does not repeat refused frames.
+        # Every burst fits into the transmit queue, because the player does not repeat frames that are refused.
         for start in range(0, len(frames), 1000):
             part = frames[start : start + 1000]
             with CanutilsLogWriter(str(tmp_path / "run.log")) as log:
@@ -153,7 +153,7 @@ def test_a_notifier_in_a_thread(pair):
     can0, can1 = pair
     reader = can.BufferedReader()
     notifier = can.Notifier(can1, [reader], timeout=0.1)
-    # While the notifier waits for frames, this thread sends on the same bus and asks for the status.
+    # While the notifier waits for frames, this thread sends on the same bus and requests the status.
     for number in range(200):
         can0.send(message(number), timeout=WAIT)
         can1.send(message(0x7FF), timeout=WAIT)
@@ -222,7 +222,7 @@ def test_sending_periodically(pair):
         pass
     assert can1.recv(0.1) is None
     assert {bytes(one.data) for one in got} == {b"\x01"}
-    # Each frame has a later timestamp than the one before.
+    # Every frame has a later timestamp than the frame before it.
     moments = [one.timestamp for one in got]
     assert moments == sorted(set(moments))
 
@@ -237,7 +237,7 @@ def test_a_periodic_task_survives_bus_off(caplog):
                 if "bus off" in caplog.text:
                     break
                 time.sleep(0.01)
-            # In this time, further frames are refused.
+            # Further frames are refused during this time.
             time.sleep(0.05)
             can0.restart()
             assert can1.recv(WAIT).arbitration_id == 0x123
@@ -268,7 +268,7 @@ def test_a_periodic_task_ends_with_its_bus(server, caplog):
         can0.shutdown()
         while can1.recv(0.1):
             pass
-        # A frame that is still being sent at the stop causes no error.
+        # If a frame is still being sent when the task is stopped, no error is raised.
         task.bus.send(message(0x123))
     assert not caplog.records
 

@@ -1,4 +1,5 @@
-"""A simulated ECU and a UDS client: requests and answers by ISO 14229-1, segments by ISO 15765-2."""
+"""A simulated ECU and a UDS client: requests and responses according to ISO 14229-1, segmentation according to ISO
+15765-2."""
 
 import errno
 import importlib.util
@@ -22,7 +23,7 @@ def car():
 
 @pytest.fixture
 def ecu(car):
-    """An ECU with a VIN."""
+    """An ECU that has a VIN."""
     with uds.Ecu(car, "ecu", tx=0x7E8, rx=0x7E0, functional=0x7DF, p2=WAIT) as running:
         running.dids[0xF190] = VIN
         yield running
@@ -30,13 +31,13 @@ def ecu(car):
 
 @pytest.fixture
 def tester(car, ecu):
-    """A client of the ECU."""
+    """A UDS client for the ECU."""
     with uds.Client(car, "tester", tx=0x7E0, rx=0x7E8, functional=0x7DF, p2=WAIT) as client:
         yield client
 
 
 def refused(call, *words, **more):
-    """Returns the negative response code of a refused call."""
+    """Returns the negative response code with which a call is refused."""
     with pytest.raises(uds.NegativeResponse) as fault:
         call(*words, **more)
     return fault.value.code
@@ -45,7 +46,7 @@ def refused(call, *words, **more):
 def test_what_is_on_the_bus(car, tester):
     assert tester.read(0xF190) == VIN
     log = [(message.channel, bytes(message.data).hex()) for message in car.log()]
-    # The answer of 20 bytes takes a first frame and, after the flow control, two consecutive frames.
+    # The response of 20 bytes is sent as a first frame and, after the flow control, two consecutive frames.
     assert log == [
         ("tester", "0322f190"),
         ("ecu", "1014" + b"\x62\xf1\x90WVW".hex()),
@@ -56,7 +57,7 @@ def test_what_is_on_the_bus(car, tester):
 
 
 def test_sessions(ecu, tester):
-    # P2 is 60 seconds, in units of a millisecond. P2* is 5 seconds, in units of 10 milliseconds.
+    # P2 is 60 seconds, sent in milliseconds. P2* is 5 seconds, sent in units of 10 milliseconds.
     assert tester.request(b"\x10\x03") == bytes.fromhex("5003 EA60 01F4")
     assert ecu.session == 3
     assert refused(tester.session, 0x44) == 0x12
@@ -68,7 +69,7 @@ def test_sessions(ecu, tester):
 def test_sessions_by_their_names(ecu, tester):
     ecu.routine(0x0203, sessions="extended")(lambda data: b"\x00")
     ecu.routine(0x0204, sessions=["programming", 3])(lambda data: b"\x01")
-    # The numbers are those of ISO 14229-1.
+    # The session numbers are those of ISO 14229-1.
     for name, number, allowed in (("default", 1, []), ("programming", 2, [0x0204]), ("extended", 3, [0x0203, 0x0204])):
         tester.session(name)
         assert ecu.session == number
@@ -112,7 +113,7 @@ def test_dids(ecu, tester):
     assert refused(tester.write, 0xF190, VIN) == 0x31
     assert refused(tester.read, 0x0101) == 0x31
     assert refused(tester.write, 0x0102, b"\x01") == 0x33
-    # If a request names several identifiers, the ECU answers those that exist.
+    # If a request names several data identifiers, the ECU returns those that exist.
     assert tester.request(b"\x22\x01\x01\x01\x00") == b"\x62\x01\x00\x03\x04"
     assert refused(tester.request, b"\x22\x01") == 0x13
     tester.session(3)
@@ -131,7 +132,7 @@ def test_security(ecu, tester):
     assert refused(tester.request, b"\x27\x02\xc9\xa9") == 0x24
     assert tester.request(b"\x27\x01") == b"\x67\x01\x36\x57"
     assert refused(tester.request, b"\x27\x02\x00\x00") == 0x35
-    # A key is valid only for the latest seed.
+    # A key is valid only for the most recent seed.
     assert refused(tester.request, b"\x27\x02\xc9\xa9") == 0x24
     tester.unlock(1, lambda seed: b"\xc9\xa9")
     assert tester.request(b"\x27\x01") == b"\x67\x01\x00\x00"
@@ -163,13 +164,13 @@ def test_pending_responses(car):
         with uds.Client(car, "tester", tx=0x7E0, rx=0x7E8, p2=WAIT, p2_star=WAIT) as tester:
             ecu.routine(0x0203)(lambda data: time.sleep(1.0) or b"\x01")
             assert tester.routine(0x0203) == b"\x01"
-            # One pending response comes after P2, and the next after nine tenths of P2*.
+            # The first "response pending" comes after P2, and the second after nine tenths of P2*.
             assert tester.pending == 2
             ecu.dids[0x0100] = b"\x05"
             ecu.delay(0x22, 0.6)
             assert (tester.read(0x0100), tester.pending) == (b"\x05", 1)
             assert (tester.read(0x0100), tester.pending) == (b"\x05", 0)
-            # A late positive response is sent even if the request suppresses it.
+            # A positive response that is late is sent even if the request suppresses it.
             ecu.delay(0x3E, 0.6)
             assert tester.request(b"\x3e\x80") == b"\x7e\x00"
 
@@ -205,7 +206,7 @@ def test_memory(ecu, tester):
     assert refused(tester.request, b"\x36\x01\x00") == 0x24
     tester.request(bytes.fromhex("34 00 44 00001000 00000004"))
     assert refused(tester.request, b"\x36\x02\x00") == 0x73
-    # A block that is repeated because its answer was lost counts once.
+    # If a block is repeated because its response was lost, it counts once.
     assert [tester.request(b"\x36\x01\xaa\xbb") for _ in range(2)] == [b"\x76\x01"] * 2
     assert refused(tester.request, b"\x37") == 0x24
     assert refused(tester.request, b"\x36\x02\x01\x02\x03") == 0x71
@@ -238,7 +239,7 @@ def test_requests_to_all(ecu, tester):
     assert tester.request(b"\x22\xf1\x90", functional=True)[3:] == VIN
     tester.session(3)
     tester.tester_present(functional=True)
-    # If a request goes to all ECUs, no ECU answers that a service or an identifier is unknown.
+    # If a request is addressed to all ECUs, no ECU replies that a service or an identifier is unknown.
     for request in (b"\xba\x01", b"\x22\x99\x99"):
         tester.end.send(request, functional=True)
         assert tester.end.recv(timeout=0.2) is None
@@ -293,7 +294,7 @@ def test_faults_of_segments(ecu, tester, segment, kind, number):
         tester.end.recv(timeout=1.5)
     else:
         assert tester.read(0xF190) == VIN
-    # Only one message has the fault, so the next one is right.
+    # The fault affects only one message, so the next response is right.
     assert tester.read(0xF190) == VIN
 
 
@@ -393,5 +394,5 @@ def test_an_answer_that_takes_longer_than_p2(car):
     with uds.Ecu(car, "ecu", tx=0x7E8, rx=0x7E0) as ecu:
         with uds.Client(car, "tester", tx=0x7E0, rx=0x7E8, p2=1.0, stmin=45) as tester:
             ecu.dids[0x0100] = bytes(200)
-            # There are 28 consecutive frames at intervals of 45 milliseconds.
+            # The response has 28 consecutive frames, sent at intervals of 45 milliseconds.
             assert tester.read(0x0100) == bytes(200)

@@ -17,7 +17,7 @@ from canbusd.virtual import is_virtual
 from common import DBC, WAIT, on_each_kind
 from test_downs import PROGRAM
 
-#: The identifiers of network management messages, in AUTOSAR's usual range.
+#: The identifiers of network management messages, in the range that is usual for AUTOSAR.
 NM = range(0x500, 0x540)
 
 
@@ -31,7 +31,7 @@ def run(request):
 
 @pytest.fixture
 def database(tmp_path):
-    """A database with two nodes, one of which sends a message every 10 ms."""
+    """The path of a DBC file with two nodes, one of which sends a message every 10 ms."""
     pytest.importorskip("canmatrix")
     path = tmp_path / "car.dbc"
     path.write_text(DBC)
@@ -45,10 +45,10 @@ def test_a_frame_wakes_a_node(run):
         tester.send(0x53F, b"\x01")
         assert run.expect_state("ecu", "active", within=WAIT) == ("active", 0, 0)
         tester.send(0x510, b"\x02")
-        # The frame that wakes a node does not reach that node.
+        # The node does not receive the frame that wakes it.
         received = [ecu.recv(timeout=WAIT), ecu.recv(timeout=WAIT)]
         assert [(one.is_error_frame, one.arbitration_id) for one in received] == [(True, 0x100), (False, 0x510)]
-        # After waking up, the node takes part in the traffic.
+        # After it has woken up, the node receives and sends frames again.
         ecu.send(0x501)
         run.expect_sequence(0x53F, 0x510, 0x501, within=WAIT)
 
@@ -82,7 +82,7 @@ def test_a_frame_that_nobody_sees_whole_wakes_nobody(run):
 
 def test_frames_from_before_wake_nobody(run):
     with run.bus("tester") as tester, run.bus("ecu") as ecu:
-        # Another node is asleep already, so the bench is watching for wake-up frames.
+        # Another node is already asleep, so the bench is watching for wake-up frames.
         run.node("gateway").sleep(wake_on=0x540)
         for _ in range(20):
             ecu.send(0x511, timeout=WAIT)
@@ -97,7 +97,7 @@ def test_frames_from_before_wake_nobody(run):
 
 
 def test_all_sleep_and_wake_one_another(run):
-    """The nodes form a chain, and each node that wakes up wakes the next one."""
+    """The nodes form a chain, in which each node that wakes up wakes the next one."""
     with run.bus("tester") as tester, run.bus("gateway") as gateway:
         run.node("ecu").sleep(wake_on=0x512)
         run.node("gateway").sleep(wake_on=[0x510, range(0x700, 0x780)])
@@ -106,7 +106,7 @@ def test_all_sleep_and_wake_one_another(run):
         assert run.state("ecu") == "down"
         gateway.send(0x512)
         run.expect_state("ecu", "active", within=WAIT)
-        # No frame wakes a node that is already awake. Nodes that go back to sleep can be woken again.
+        # No frame wakes a node that is already awake. A node that goes back to sleep can be woken again.
         for name, wakes in ("ecu", 0x512), ("gateway", 0x510):
             run.node(name).sleep(wake_on=wakes)
             tester.send(wakes)
@@ -131,7 +131,7 @@ def test_a_message_by_its_name_and_the_rest_bus(run, database):
 
 @pytest.mark.parametrize("bitrate", [500_000, None])
 def test_a_bench_whose_rest_bus_runs(database, bitrate):
-    """The wake-up comes in the middle of a run of the bench."""
+    """The wake-up happens in the middle of a run of the bench."""
     with Bench("ecu,tester", bitrate=bitrate) as bench, bench.bus("tester") as tester:
         with bench.rest_bus(database, interface="ecu", without=["ECU"]) as rest:
             bench.node("ecu").sleep(wake_on=0x200)
@@ -160,7 +160,7 @@ def test_a_bench_wakes_at_the_end_of_the_frame():
         assert (restarted.meaning, restarted.timestamp) == ("restarted", first.timestamp)
         assert (after.arbitration_id, after.timestamp) == (0x512, second.timestamp)
         assert (first.accepted, second.accepted, bench.now) == ((), ("ecu",), 1)
-        # Single attempts wake nodes too.
+        # The frame of a single attempt wakes nodes too.
         bench.node("ecu").sleep(wake_on=NM)
         tester.send(0x513)
         assert bench.attempt(at=2).outcome == "done" and bench.state("ecu") == "active"
@@ -172,7 +172,7 @@ def test_a_program_goes_on():
         program = server.start([sys.executable, "-c", PROGRAM])
         server.expect(0x100, within=WAIT)
         pid = program.pid
-        # The program would answer the wake-up frame, but does not see it.
+        # The program would answer the wake-up frame, but it does not receive that frame.
         server.node("ecu", program).sleep(wake_on=0x200)
         tester.send(0x200)
         server.expect_state("ecu", "active", within=WAIT)
@@ -257,7 +257,7 @@ def test_a_bench_goes_with_its_nodes():
         assert bench.node("ecu") is bench.node("ecu")
     folder = bench._folder
     assert folder.exists()
-    # No reference cycle keeps the bench alive.
+    # There is no reference cycle that keeps the bench alive.
     del bench
     assert not folder.exists()
 
@@ -315,7 +315,7 @@ def test_filters_pass_what_wakes(span):
             frame = Frame(identifier, is_extended_id=is_extended)
             wakes = identifier in span and is_extended == (identifier > 0x7FF)
             assert wake_up.matches(frame) == wakes
-            # The rule of linux/can.h decides whether a filter matches.
+            # Whether a filter matches is decided by the rule in linux/can.h.
             word = identifier_word(frame)
             assert any(word & mask == of & mask for of, mask in pairs) == wakes
             assert not any((word | REMOTE) & mask == of & mask for of, mask in pairs)
@@ -338,7 +338,7 @@ print([step.kind for step in steps], round(woken * 1e6))
 """
 
 
-#: A test in which another thread uses the session on which the test waits.
+#: A test in which another thread uses the session that the test is waiting on.
 OTHER_THREAD = """
 import threading, time
 from canbusd import Server
@@ -359,7 +359,7 @@ def test_another_thread_brings_an_interface_up_in_virtual_time(tmp_path):
 
 
 def test_virtual_time(tmp_path):
-    """The node is awake at the end of the frame. The frame has 52 bits and at most 10 stuff bits, of 2 microseconds each."""
+    """The node is awake at the end of the frame. The frame has 52 bits and at most 10 stuff bits of 2 us each."""
     path = tmp_path / "test.py"
     path.write_text(textwrap.dedent(VIRTUAL))
     outputs = {

@@ -1,4 +1,4 @@
-"""python3 -m canbusd watch: the data for the page, the page in a browser, and the end of the command."""
+"""The command `python3 -m canbusd watch`: the data for the page, the page in a browser, and the end of the command."""
 
 import contextlib
 import http.client
@@ -61,7 +61,8 @@ def test_frames_and_bus_errors_push_out_no_bus_off():
 
 
 def test_the_sender_is_the_interface_that_has_sent_the_frame():
-    """The sender of each frame is right, even if all identifiers are equal and one interface of the bus is not watched."""
+    """Every frame is attributed to the right sender, even if all identifiers are equal and one interface of the bus is
+    not watched."""
     with Server("can0,can1,can2") as server:
         watcher = Watcher(["can0", "can1"], server.address)
         assert watcher.wires == [None, None]
@@ -76,7 +77,7 @@ def test_the_sender_is_the_interface_that_has_sent_the_frame():
 
 
 def test_how_long_frames_took_on_buses_with_bit_rates_of_their_own():
-    """A frame takes ten times as long on the slower bus. Without a bit rate, the time is not known."""
+    """A frame takes ten times as long on the slower bus. If the bus has no bit rate, the time is not known."""
     names, rates = ["can0", "body0", "lin0"], {"can0": 50_000, "body0": 5_000}
     with Server(*names, bitrate=rates) as server:
         watcher = Watcher(names, server.address)
@@ -97,7 +98,7 @@ def test_the_load_and_how_long_frames_took():
     with Server("can0,can1", bitrate=5_000, dbitrate=20_000, txqueue=1_000) as server, server.bus("can0") as bus:
         watcher = Watcher(["can0", "can1"], server.address)
         assert [wire.rates for wire in watcher.wires] == [rates, rates]
-        # These frames take 26 seconds.
+        # It takes 26 seconds to send these frames.
         bus.send_many([can.Message(arbitration_id=1, data=bytes(8), is_extended_id=False)] * 1_000)
         server.wait_for(lambda: bus.load().permille >= 990, timeout=WAIT)
         tick, rows = watcher.tick(0.1)
@@ -108,7 +109,7 @@ def test_the_load_and_how_long_frames_took():
 
 
 def test_how_long_frames_of_each_kind_take():
-    """The program computes the times, and is asked once for each frame."""
+    """The program computes the times, and receives one request per frame."""
     texts = ["000#", "7FF#FFFFFFFFFFFFFFFF", "1FFFFFFF#", "123#R", "048C0000#R8", "123##0", f"1ABCDEF0##3{64 * '00'}"]
     times = FrameTimes(Rates(5_000, 20_000))
     wanted = [nanos_of(text, 5_000, 20_000)[1] for text in texts]
@@ -135,7 +136,8 @@ def test_no_more_times_are_kept_than_there_is_room_for(monkeypatch):
 
 
 def test_without_a_program_there_is_no_load(monkeypatch, capsys):
-    """The server may be on another machine, so the program may be missing. A note says so, and there is no bus load."""
+    """If the server is on another machine, the program may be missing here. Then a note says so, and there is no bus
+    load."""
     monkeypatch.setenv("CANBUSD", "/nonexistent/canbusd")
     assert times_of(Rates(5_000)) is None
     assert capsys.readouterr().err == (
@@ -170,16 +172,17 @@ def test_a_page_gets_the_end():
 @pytest.mark.parametrize(
     ("text", "fault"),
     [
-        # As in linux/can/error.h: a bit error while sending, a form error in the end of frame, no acknowledgement.
+        # These are, according to linux/can/error.h: a bit error while sending, a form error in the end of frame, and a
+        # missing acknowledgement.
         ("20000088#0000810A00000000", 1),
         ("20000088#0000821A00000000", 0),
         ("200000A0#0000801900000000", 2),
-        # These are a receiver's error, a change of state, bus off, and a data frame.
+        # These are a receiver's error, a state change, bus off, and a data frame.
         ("20000088#0000040000000000", None),
         ("20000204#0008000000006000", None),
         ("20000040#0000000000000000", None),
         ("123#0000810A00000000", None),
-        # These frames are too short.
+        # The payloads of these frames are shorter than 8 bytes.
         ("20000088#00", None),
         ("20000088#000081", 1),
     ],
@@ -198,13 +201,13 @@ ENVIRONMENT = {
 
 
 def called(server, *words):
-    """Runs the command with these words to its end, and returns the result."""
+    """Runs the command with these arguments to completion, and returns the completed process."""
     words = [*WATCH, "-a", server.address, *words, "can0"]
     return subprocess.run(words, env=ENVIRONMENT, capture_output=True, text=True, timeout=WAIT, check=False)
 
 
 class Watch:
-    """A running process of the command."""
+    """A running process of the command `watch`."""
 
     def __init__(self, server, *names, options=()):
         self.child = subprocess.Popen(
@@ -217,7 +220,7 @@ class Watch:
         self.port, self.path = int(self.url.split(":")[2].split("/")[0]), "/" + self.url.split("/", 3)[3]
 
     def get(self, path=None, host=None, method="GET"):
-        """Returns the answer to a request for the page, or for another path."""
+        """Requests the page or another path, and returns the HTTP response."""
         connection = http.client.HTTPConnection("127.0.0.1", self.port, timeout=WAIT)
         connection.request(method, path or self.path, headers={"Host": host or f"127.0.0.1:{self.port}"})
         return connection.getresponse()
@@ -235,7 +238,7 @@ def message(identifier):
 
 
 def test_news_have_the_frames_and_counts_of_both_interfaces():
-    # The first frame is destroyed once, so the transmit count of its sender is 8, and then 7.
+    # The first frame is destroyed once, so the transmit error counter of its sender is first 8 and then 7.
     server = Server("can0,can1", report=True, faults=Faults().destroyed(0))
     with server, Watch(server, "can0", "can1") as watch:
         answer = watch.get(f"{watch.path}news")
@@ -264,7 +267,7 @@ def test_news_have_the_frames_and_counts_of_both_interfaces():
 
 @contextlib.contextmanager
 def connections(port, count):
-    """Opens connections on which no request is sent."""
+    """Opens `count` connections on which no request is sent."""
     with contextlib.ExitStack() as all_of_them:
         made = []
         for _ in range(count):
@@ -323,7 +326,7 @@ def test_it_ends_with_the_server():
 
 @pytest.mark.skipif(PROGRAM is None, reason="no chromium on the PATH")
 def test_the_page(tmp_path):
-    # can0 sends, and goes bus off.
+    # can0 sends a frame, which is destroyed 32 times, so can0 goes bus off.
     with Server("can0,can1", faults=Faults().destroyed(range(32))) as server, Watch(server, "can0", "can1") as watch:
         browser = Browser(tmp_path)
         try:
@@ -337,11 +340,11 @@ def test_the_page(tmp_path):
                 browser.settle()
             shown = browser.run("[...at('ifaces').rows[1].cells].map(one => one.textContent)")
             assert shown == ["can0", "bus\u00a0off", "256", "0", "1", "0", "0", "1", "0"]
-            # From here on only can1 sends.
+            # From here on, only can1 sends.
             browser.until("byIdentifier.get('124').sender === 1")
             browser.run("showTab('tab-events')")
             assert "bus off" in browser.run("at('events').innerText")
-            # While the page is paused, the choice stays and no row moves. New frames are kept for later.
+            # While the page is paused, the selection stays and no row moves. New frames are stored for later.
             browser.run("at('offs').querySelector('button').click()")
             browser.settle()
             assert browser.run("at('moment').innerText").startswith("Chosen: ")
@@ -353,7 +356,7 @@ def test_the_page(tmp_path):
             assert browser.run("ticks.length") > before
             assert browser.run("chosen.kind") == "bus off"
             assert browser.run("at('events').querySelector('[aria-selected]').innerText.includes('bus off')")
-            # The buttons hide and show kinds of rows.
+            # The buttons hide and show the different kinds of rows.
             browser.run("[...at('kinds').children].find(one => one.textContent.startsWith('error warning')).click()")
             browser.settle()
             assert browser.run("[...new Set(lists[tab].list.map(one => one.kind))].join()") == "error warning"
@@ -368,7 +371,7 @@ def test_the_page(tmp_path):
 
 @pytest.mark.skipif(PROGRAM is None, reason="no chromium on the PATH")
 def test_signals_of_the_page(tmp_path):
-    """A table has the latest values. Chosen signals also have lanes, with a band of names or a curve."""
+    """A table shows the latest values. Selected signals also have lanes, with either a band of names or a curve."""
     pytest.importorskip("canmatrix", reason="not installed: canmatrix")
     file = Path(__file__).with_name("car.dbc")
     car = load_database(file, library="canmatrix")
@@ -406,7 +409,7 @@ def test_signals_of_the_page(tmp_path):
 
 @pytest.mark.skipif(PROGRAM is None, reason="no chromium on the PATH")
 def test_the_page_of_a_server_with_a_bit_rate(tmp_path):
-    """The page shows the load even of an idle bus, and the share of the time that each identifier takes."""
+    """The page shows the load even of an idle bus, and the percentage of time that each identifier takes."""
     with Server("can0,can1", bitrate=5_000) as server, Watch(server, "can0", "can1") as watch:
         browser = Browser(tmp_path)
         try:
@@ -419,7 +422,7 @@ def test_the_page_of_a_server_with_a_bit_rate(tmp_path):
             with server.bus("can0", bitrate=5_000) as bus:
                 bus.send(message(0x123))
                 browser.until("byIdentifier.has('123')")
-            # The page shows the load of a bus once, in the row of the first of its nodes.
+            # The load of a bus is shown once, in the row of the bus's first node.
             browser.until("at('ifaces').rows[2].cells[9].textContent === ''")
             browser.run("showTab('tab-identifiers')")
             browser.settle()
@@ -430,8 +433,8 @@ def test_the_page_of_a_server_with_a_bit_rate(tmp_path):
 
 
 def test_no_more_frames_a_second_than_the_bus_carries():
-    """A frame without data has at least 47 bits with intermission. The frame rate stays below that limit, even if the counts are
-    requested late."""
+    """A frame without data has at least 47 bits including the intermission. The frame rate stays below the resulting
+    limit, even if the counts are requested late."""
     with Server("can0,can1", bitrate=5_000, txqueue=1_000) as server, server.bus("can0") as bus:
         watcher = Watcher(["can0", "can1"], server.address)
         bus.window = 1_000
@@ -446,14 +449,14 @@ def test_no_more_frames_a_second_than_the_bus_carries():
         for one in watcher.buses:
             one.shutdown()
     assert found[0][1] == 0
-    # One more frame fits, because the first or the last frame may be only partly in this span.
+    # One additional frame is possible, because the first or the last frame may be only partly in this time span.
     assert all(0 < count <= 1 + span * 5_000 / 47 for count, span in found[1:])
 
 
 @pytest.mark.skipif(PROGRAM is None, reason="no chromium on the PATH")
 def test_what_is_short_and_what_is_late(tmp_path):
-    """A short bus off leaves a mark, even if it is over before the next request for the counts. A late request does not show a
-    higher rate."""
+    """A short bus off leaves a mark, even if it ends before the next request for the counts. A late request does not
+    result in a higher rate."""
     faults, options = Faults().next(32, sender="can0").destroyed(), ("--interval", "1")
     with Server("can0,can1", faults=faults, auto_restart=1) as server, Watch(
         server, "can0", "can1", options=options
@@ -469,7 +472,7 @@ def test_what_is_short_and_what_is_late(tmp_path):
                 browser.until("offs.length === 1 && ticks[ticks.length - 1].time > offs[0].moment + 2")
             browser.run("pause()")
             browser.settle()
-            # Draws of the band of states of can0, at its bus off and next to it.
+            # Returns whether a mark is drawn in can0's state band, first at the bus off and then next to it.
             drawn = """(() => {
               const x = Math.floor(placeOf(plotted(), offs[0].moment - ticks[0].time)), canvas = at('lanes');
               const copy = new OffscreenCanvas(canvas.width, canvas.height).getContext('2d', { willReadFrequently: true });
@@ -486,7 +489,7 @@ def test_what_is_short_and_what_is_late(tmp_path):
             )
             assert browser.run("busiest") == 100
             assert browser.run("at('facts').textContent").split(": ")[1].startswith("200 frames a second")
-            # The page may learn the sender of a frame after a receiver of that frame.
+            # The page may be told the sender of a frame after it was told a receiver.
             browser.run("takeFrame(102, '7F0#', 2, '', -1, 0, null); takeFrame(102, '7F0#', 1, '', 0, 0, null)")
             senders = "[frames[frames.length - 1], byIdentifier.get('7F0')].map(one => one.sender)"
             assert browser.run(senders) == [0, 0]

@@ -1,4 +1,4 @@
-"""The actions on the page of canbusd watch: their requests, who may send them, and the page in a browser."""
+"""The actions on the page of `canbusd watch`: the requests, who may send them, and the page in a browser."""
 
 import contextlib
 import http.client
@@ -25,7 +25,7 @@ from canbusd.signals import load_database
 
 DBC = Path(__file__).with_name("car.dbc")
 ACTS = ("send", "cycle", "stop", "rule", "end", "down", "up", "restart")
-# After this many seconds without a message, a test assumes that none comes.
+# If no message arrives for this many seconds, a test assumes that none will.
 SILENCE = 0.3
 
 
@@ -43,19 +43,19 @@ def watched(server):
 
 @pytest.fixture
 def receiver(server):
-    """A bus that has no unread frames from earlier tests."""
+    """A bus on can1 without unread frames from earlier tests."""
     with server.bus("can1", fd=True) as bus:
         yield bus
 
 
 def headers_of(watch):
-    """Returns the headers of the page's own requests."""
+    """Returns the headers that the page itself sends with its requests."""
     here = f"127.0.0.1:{watch.port}"
     return {"Host": here, "Origin": f"http://{here}", TOKEN: watch.path.strip("/")}
 
 
 def posted(watch, act, body, headers=None):
-    """Returns the answer to a request with this body."""
+    """Sends a request for an action with this body, and returns the HTTP response."""
     connection = http.client.HTTPConnection("127.0.0.1", watch.port, timeout=WAIT)
     connection.putrequest("POST", f"{watch.path}{act}", skip_host=True, skip_accept_encoding=True)
     headers = {"Content-Length": str(len(body)), **(headers_of(watch) if headers is None else headers)}
@@ -67,7 +67,7 @@ def posted(watch, act, body, headers=None):
 
 
 def ask(watch, act, node="can0", **asked):
-    """Sends a request of the page, and returns the answer."""
+    """Sends a request as the page does, and returns the decoded answer."""
     answer = posted(watch, act, json.dumps({"node": node, **asked}).encode())
     assert (answer.status, answer.getheader("Content-Type")) == (200, "application/json")
     return json.loads(answer.read())
@@ -75,7 +75,7 @@ def ask(watch, act, node="can0", **asked):
 
 @contextlib.contextmanager
 def opened(watch):
-    """Opens the page. The context is a function that returns the next news for the page."""
+    """Opens the page. Yields a function that returns the next news for the page."""
     with watch.get(f"{watch.path}news") as answer:
 
         def news():
@@ -89,7 +89,7 @@ def opened(watch):
 
 
 def is_silent(bus):
-    """Returns whether messages stop coming, after those on their way are read."""
+    """Reads the messages that are still arriving, and returns whether they stop."""
     deadline = time.monotonic() + WAIT
     while time.monotonic() < deadline:
         if bus.recv(SILENCE) is None:
@@ -112,7 +112,7 @@ def is_silent(bus):
     ],
 )
 def test_a_frame_is_sent(server, watched, receiver, text, python):
-    """A frame is sent once. The Python line on the page would send the same frame."""
+    """A frame is sent once. The Python line that the page shows would send the same frame."""
     has_fd = ", fd=True" if "##" in text else ""
     line = ask(watched, "send", frame=text)["python"]
     assert line == f'bus.send({python})  # bus = server.bus("can0"{has_fd})'
@@ -176,8 +176,9 @@ def test_what_is_refused_is_said(watched, receiver, act, asked, fault):
 
 
 def test_refusals_of_the_bus():
-    """A send is refused if the queue is full or the interface is bus off, and a rule is refused if there are too many rules."""
-    # No node acknowledges the first frame, so it stays in the queue and is sent again and again.
+    """A send is refused if the queue is full or the interface is bus off. A rule is refused if there are too many
+    rules."""
+    # No node acknowledges the first frame, so it stays in the queue and is repeated.
     with Server("can0", ack="peers", txqueue=1) as lone, Watch(lone, "can0") as watch:
         assert "python" in ask(watch, "send", frame="123#")
         fault = ask(watch, "send", frame="123#")["fault"]
@@ -213,7 +214,7 @@ def test_nodes_go_down_and_up(server, watched):
 
 
 class Interface:
-    """A stand-in for a bus, which notes the calls of its methods."""
+    """A stand-in for a bus that records the calls of its methods."""
 
     channel = "can0"
 
@@ -225,7 +226,7 @@ class Interface:
 
 
 def test_what_each_act_asks_the_interface_for(monkeypatch):
-    """Each action calls the right method of the bus, as on a server that knows all of these messages."""
+    """Every action calls the right method of the bus. The stand-in for the bus supports all of them."""
     bus = Interface()
     monkeypatch.setattr("canbusd._page.acts.CanbusdBus", lambda *_, **__: bus)
     acts = Acts(["can0"], None)
@@ -242,7 +243,7 @@ def test_what_each_act_asks_the_interface_for(monkeypatch):
 
 
 def test_cyclic_frames(watched, receiver):
-    """Cyclic frames are sent until they are stopped. The page gets a list of them."""
+    """Cyclic frames are sent until they are stopped. The page receives a list of them."""
     with opened(watched) as news:
         page = news()["page"]
         line = ask(watched, "cycle", page=page, frame="123#11", period=0.02)["python"]
@@ -250,7 +251,7 @@ def test_cyclic_frames(watched, receiver):
         assert line == f'task = bus.send_periodic({python}, 0.02)  # bus = server.bus("can0")'
         got = [receiver.recv(WAIT) for _ in range(6)]
         assert {str(frame_like(one)) for one in got} == {"123#11"}
-        # After a late frame, the next one is not sent early.
+        # If a frame is late, the next one is not sent early.
         assert got[-1].timestamp - got[0].timestamp > 3 * 0.02
         while not (cycles := news()["cycles"]):
             pass
@@ -264,7 +265,7 @@ def test_cyclic_frames(watched, receiver):
 
 
 def test_cyclic_frames_end_with_their_page(watched, receiver):
-    """When a page is closed, its cyclic frames stop, and those of other pages continue."""
+    """When a page is closed, its cyclic frames stop. The cyclic frames of other pages continue."""
     with opened(watched) as other:
         with opened(watched) as news:
             for one, frame in ((news, "100#"), (other, "200#")):
@@ -281,12 +282,12 @@ def test_cyclic_frames_end_with_their_page(watched, receiver):
 
 
 def is_without(bus, identifier):
-    """Returns whether the next frames all have other identifiers."""
+    """Returns whether none of the next frames has this identifier."""
     return all(bus.recv(WAIT).arbitration_id != identifier for _ in range(20))
 
 
 def test_a_closed_page_is_known_without_news(server, receiver):
-    """A closed page is noticed even if the counts are requested only once an hour."""
+    """The server notices that a page was closed, even if the counts are requested only once an hour."""
     with Watch(server, "can0", options=["--interval", "3600"]) as watch:
         with opened(watch) as news:
             assert "python" in ask(watch, "cycle", page=news()["page"], frame="300#", period=0.01)
@@ -299,8 +300,8 @@ def test_a_closed_page_is_known_without_news(server, receiver):
 
 
 def test_refusals_of_cyclic_frames():
-    """The page shows why a cyclic frame is refused. Sending goes on when the interface is back. The number of cyclic frames is
-    limited."""
+    """The page shows why a cyclic frame is refused. Sending continues after the interface has restarted. The number of
+    cyclic frames is limited."""
     with Server("can0,can1") as server, Watch(server, "can0") as watch, opened(watch) as news:
         page = news()["page"]
         server.inject("next 32 from can0 global bit", "can0")
@@ -317,7 +318,8 @@ def test_refusals_of_cyclic_frames():
 
 
 def test_nothing_is_done_for_others(watched, receiver):
-    """A request is refused if its token header is missing, if it has another origin, or if it is of another kind."""
+    """A request is refused if its token, origin or host is missing or wrong, or if it is not a POST request for an
+    action."""
     own, frame = headers_of(watched), json.dumps({"node": "can0", "frame": "123#"}).encode()
     token, here = own[TOKEN], own["Origin"]
     without = {name: {key: value for key, value in own.items() if key != name} for name in (TOKEN, "Origin")}
@@ -368,7 +370,7 @@ def test_a_body_that_is_none(watched, receiver):
 
 
 def test_a_page_that_only_reads(server, receiver):
-    """With --read-only the page has no controls, and the server refuses all actions."""
+    """With --read-only the page has no controls, and every action is refused."""
     with Watch(server, "can0", options=["--read-only"]) as watch:
         frame = json.dumps({"node": "can0", "frame": "123#"}).encode()
         for act in ACTS:
@@ -380,7 +382,8 @@ def test_a_page_that_only_reads(server, receiver):
     assert is_silent(receiver)
 
 
-# A program that asks a port to send a frame, by a path with the token, and prints the status.
+# A program that requests the sending of a frame at a port, with a path that contains the token, and prints the HTTP
+# status.
 SEND = """
 import http.client, sys
 port, path = sys.argv[1:]
@@ -402,7 +405,7 @@ def test_another_user_of_a_server_at_a_unix_path(tmp_path):
 
 
 def said(browser, form):
-    """Waits for the answer that a form shows for its last action, and returns it."""
+    """Waits for the answer that a form shows for its latest action, and returns the answer."""
     browser.until(f"at('{form}').querySelector('.said').textContent !== ''")
     text = browser.run(f"at('{form}').querySelector('.said').textContent")
     browser.run(f"at('{form}').querySelector('.said').replaceChildren()")
@@ -419,8 +422,8 @@ def press(browser, form, name):
 @pytest.mark.browser
 @needs_browser
 def test_the_page_sends(tmp_path):
-    """The page can be used by keyboard, sends signals and cyclic frames, and adds rules. After the page is closed, its cyclic
-    frames stop."""
+    """The page can be used with the keyboard, sends signals and cyclic frames, and adds rules. After the page is
+    closed, its cyclic frames stop."""
     pytest.importorskip("canmatrix", reason="not installed: canmatrix")
     with Server("can0,can1") as server, Watch(server, "can0", "can1", options=["--dbc", str(DBC)]) as watch:
         browser = Browser(tmp_path)
@@ -430,7 +433,7 @@ def test_the_page_sends(tmp_path):
                 browser.open(watch.url)
                 browser.until("page !== ''")
                 assert browser.run("at('acts').open") is False
-                # In this part, only the keyboard is used.
+                # This part uses only the keyboard.
                 browser.key("s")
                 for key in "123":
                     browser.key(key)
@@ -441,7 +444,7 @@ def test_the_page_sends(tmp_path):
                 )
                 assert str(frame_like(receiver.recv(WAIT))) == "123#"
                 browser.until("frames.some(one => one.text === '123#' && one.sender === 0)")
-                # The loop sends each kind of frame, and tries a text that is no frame.
+                # The loop sends every kind of frame. After it, an invalid identifier is refused.
                 for kind, data, text in (
                     ("#", "11 22 ab", "123#1122AB"),
                     ("##0", "0A", "123##00A"),
@@ -457,14 +460,14 @@ def test_the_page_sends(tmp_path):
                 assert press(browser, "act-frame", "send").startswith(
                     "Refused: 12#R4: an identifier has 11 bits in 3 digits"
                 )
-                # The button copies the Python line.
+                # The button copies the line of Python code.
                 press_copy = "navigator.clipboard.writeText = async text => { window.copied = text; }; at('act-node').querySelector('.said button').click()"
                 browser.run("at('act-node').elements.up.click()")
                 browser.until("!!at('act-node').querySelector('.said button')")
                 browser.run(press_copy)
                 browser.until("at('act-node').querySelector('.said button').textContent === 'copied'")
                 assert browser.run("window.copied") == 'server.up("can0")' and browser.run("isSecureContext")
-                # Signals are sent cyclically. Signals without a given value have their start values.
+                # Signals are sent cyclically. A signal without a given value is sent with its initial value.
                 browser.run("at('act-message').value = 'Engine'; at('act-message').onchange()")
                 assert browser.run("[...at('by-signals').querySelectorAll('input')].map(one => [one.name, one.placeholder].join())") == [
                     "speed,0", "temperature,25", "gear,Park", "torque,0"
@@ -481,7 +484,7 @@ def test_the_page_sends(tmp_path):
                 assert said(browser, "act-frame") == "task.stop() copy"
                 assert is_silent(receiver)
                 browser.until("document.activeElement.name === 'cycle' && !at('cycles').children.length")
-                # A ready-made rule is added, and the bus obeys it.
+                # A rule is selected from the ready-made ones and added, and the bus obeys it.
                 browser.run("at('act-ready').value = 4; at('act-ready').onchange()")
                 assert (
                     press(browser, "act-rule", "rule") == 'server.inject("next 32 from can0 global bit", "can0") copy'
@@ -496,7 +499,7 @@ def test_the_page_sends(tmp_path):
                 assert press(browser, "act-rule", "rule").startswith("Refused: rule 'next 1 lost': its verdict is ")
                 browser.run("at('act-name').value = 'can1'; at('act-name').onchange()")
                 assert press(browser, "act-node", "up") == 'server.up("can1") copy'
-                # Nothing is too wide at either width, in light or dark colours.
+                # No element is too wide at either page width, in light or dark colours.
                 for width in (1600, 500):
                     for is_dark in (False, True):
                         browser.size(width, dark=is_dark)
@@ -532,7 +535,8 @@ def test_a_page_without_controls(server, tmp_path):
 @pytest.mark.browser
 @needs_browser
 def test_another_site_sends_nothing(watched, receiver, tmp_path):
-    """Even a site that knows the URL can't send frames, because the browser asks for permission first, or leaves out a header."""
+    """Even a site that knows the URL can't send frames, because the browser either asks the server for permission first
+    or omits a header."""
     body = json.dumps({"node": "can0", "frame": "123#"})
     with site() as port:
         browser = Browser(tmp_path, "--host-resolver-rules=MAP site.example 127.0.0.1")

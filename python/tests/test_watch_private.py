@@ -1,4 +1,5 @@
-"""Only users who have its URL can open the page of canbusd watch. The page of a server at a Unix path is open to one user only."""
+"""Only users who have the page's URL can open the page of `canbusd watch`. If the server is at a Unix path, only one
+user can open it."""
 
 import contextlib
 import http.server
@@ -19,7 +20,7 @@ from canbusd.server import Server
 NOBODY = 65534
 needs_browser = pytest.mark.skipif(PROGRAM is None, reason="no chromium on the PATH")
 needs_root = pytest.mark.skipif(os.geteuid() != 0, reason="needs root, which may be another user")
-# A program that requests paths at a port, and prints the status of each answer.
+# A program that requests paths at a port, and prints the HTTP status of each response.
 ASK = """
 import http.client, sys
 port, *paths = sys.argv[1:]
@@ -32,7 +33,7 @@ for path in paths:
 
 @pytest.fixture(scope="module", params=["Unix path", "TCP"])
 def watched(request, tmp_path_factory):
-    """The page of a server. The server is at a Unix path, or at a TCP port that every user may connect to."""
+    """The page of a server that is at a Unix path, or at a TCP port to which every user may connect."""
     path = str(tmp_path_factory.mktemp("private") / "socket")
     with Server("can0,can1", listen=path if request.param == "Unix path" else "127.0.0.1:0") as server:
         with Watch(server, "can0") as watch:
@@ -41,7 +42,8 @@ def watched(request, tmp_path_factory):
 
 
 def others(watch):
-    """Returns paths like that of the page, but with no token, a wrong token or a part of the token."""
+    """Returns paths that are similar to the page's path, but without the token, with a wrong token or with a part of
+    the token."""
     token = watch.path.strip("/")
     cut = [token[:-1], token[1:], token.swapcase(), token + "0", token + "%00", "0" * len(token), f"{token}\u00e9"]
     paths = [
@@ -58,7 +60,7 @@ def others(watch):
 
 
 def raw(watch, text):
-    """Returns the answer to these bytes."""
+    """Sends these bytes, and returns the bytes of the response."""
     with socket.create_connection(("127.0.0.1", watch.port), WAIT) as own:
         own.sendall(text)
         parts = []
@@ -72,7 +74,7 @@ def status_of(answer):
 
 
 def test_the_url_has_a_token_that_is_new_each_time(watched):
-    """Each URL has a new token of 256 random bits, made by the module secrets."""
+    """Every URL has a new token of 256 random bits from the module `secrets`."""
     assert re.fullmatch(r"http://127\.0\.0\.1:\d+/[A-Za-z0-9_-]{43}/", watched.url)
     with Server("can0") as server, Watch(server, "can0") as other:
         assert other.path != watched.path
@@ -80,7 +82,7 @@ def test_the_url_has_a_token_that_is_new_each_time(watched):
 
 
 def test_without_the_token_nothing_is_there(watched):
-    """Without the token every path and method gets the same refusal."""
+    """Without the token, every path and method is refused in the same way: the responses are identical."""
     host = f"Host: 127.0.0.1:{watched.port}\r\n\r\n"
     answers = set()
     for path in others(watched):
@@ -107,8 +109,8 @@ def test_with_the_token(watched):
 
 
 def test_another_name_of_this_machine_is_refused(watched):
-    """A request by another host name is refused even with the token. Otherwise a site whose name leads to this machine could read
-    the page (DNS rebinding)."""
+    """A request with a different host name is refused even if it has the token. Otherwise a site whose name resolves to
+    this machine could read the page (DNS rebinding)."""
     port = watched.port
     assert watched.get(host=f"localhost:{port}").status == 200
     for host in (
@@ -123,7 +125,7 @@ def test_another_name_of_this_machine_is_refused(watched):
     own = f"Host: 127.0.0.1:{port}\r\n"
     for hosts in ("", own + own, f"{own}Host: example.org\r\n", f"Host: example.org\r\n{own}"):
         assert status_of(raw(watched, f"GET {watched.path} HTTP/1.1\r\n{hosts}\r\n".encode())) == 403, hosts
-    # In HTTP 0.9 a request has no host, and an answer has no status.
+    # In HTTP 0.9 a request has no Host header, and a response has no status line.
     assert b"Error code: 403" in raw(watched, f"GET {watched.path}\r\n\r\n".encode())
     absolute = f"GET http://127.0.0.1:{port}{watched.path} HTTP/1.1\r\n{own}\r\n"
     assert status_of(raw(watched, absolute.encode())) == 403
@@ -142,7 +144,7 @@ def test_each_answer_has_the_headers(watched):
 
 
 def test_one_request_a_connection(watched):
-    """A second request on a connection, which may come from someone else, is not read."""
+    """A second request on the same connection is not read, because it may come from someone else."""
     host = f"Host: 127.0.0.1:{watched.port}\r\nConnection: keep-alive\r\n"
     whole = f"GET {watched.path} HTTP/1.1\r\nRange: bytes=0-9\r\n{host}\r\n".encode()
     answer = raw(watched, whole + whole)
@@ -150,13 +152,13 @@ def test_one_request_a_connection(watched):
 
 
 def test_the_token_is_in_no_log(tmp_path):
-    """The log has no token, and no message about a browser that disconnects."""
+    """Neither the token nor a message about a browser that disconnects is logged."""
     with Server("can0") as server, Watch(server, "can0") as watch:
         for path in (watch.path, f"{watch.path}news", "/", f"{watch.path}x"):
             with socket.create_connection(("127.0.0.1", watch.port), WAIT) as own:
                 own.sendall(f"GET {path} HTTP/1.1\r\nHost: 127.0.0.1:{watch.port}\r\n\r\n".encode())
                 own.recv(1)
-                # This closes the connection with a reset.
+                # With this option, the connection is closed with a reset.
                 own.setsockopt(socket.SOL_SOCKET, socket.SO_LINGER, b"\1\0\0\0\0\0\0\0")
         assert raw(watch, b"no request\r\n\r\n")
         assert watch.get().status == 200
@@ -169,7 +171,8 @@ def test_the_token_is_in_no_log(tmp_path):
 
 @needs_root
 def test_another_user(watched):
-    """Another user who has the URL sees the page only if the server is at a port, where that user could also watch it."""
+    """Another user who has the URL can open the page only if the server is at a TCP port, which that user could watch
+    anyway."""
     words = [sys.executable, "-c", ASK, str(watched.port), "/", watched.path, f"{watched.path}news"]
     done = subprocess.run(
         words, user=NOBODY, group=NOBODY, extra_groups=[], capture_output=True, text=True, timeout=WAIT, check=True
@@ -181,7 +184,7 @@ def test_another_user(watched):
 
 @pytest.mark.parametrize("family", [socket.AF_INET, socket.AF_INET6])
 def test_the_user_of_a_connection(family):
-    """The system names the user of a connection, also for IPv6. A closed connection has no user."""
+    """The system can tell which user a connection belongs to, also for IPv6. A closed connection has no user."""
     with socket.socket() as listening:
         listening.bind(("127.0.0.1", 0))
         listening.listen()
@@ -197,13 +200,14 @@ def test_the_user_of_a_connection(family):
 
 
 def memory(watch):
-    """Returns the memory of the command in bytes."""
+    """Returns how much memory the command uses, in bytes."""
     with open(f"/proc/{watch.child.pid}/statm", encoding="ascii") as file:
         return int(file.read().split()[1]) * os.sysconf("SC_PAGE_SIZE")
 
 
 def test_many_that_ask_nothing_keep_nobody_out(watched):
-    """Many connections that send no request, or only parts of one, keep nobody out: new ones replace the oldest."""
+    """Many connections that send no request, or only part of one, do not keep other clients out. New connections
+    replace the oldest ones."""
     with connections(watched.port, 5 * MOST_WAITING) as silent:
         for one in silent:
             with contextlib.suppress(OSError):
@@ -230,7 +234,7 @@ def test_a_long_request_is_not_kept(watched):
 
 
 def test_a_page_that_takes_nothing_ends(watched):
-    """A client that does not read its news is disconnected, and does not delay others."""
+    """A client that does not read the news is disconnected, and does not delay other clients."""
     with socket.create_connection(("127.0.0.1", watched.port), WAIT) as slow:
         slow.setsockopt(socket.SOL_SOCKET, socket.SO_RCVBUF, 1024)
         slow.sendall(f"GET {watched.path}news HTTP/1.1\r\nHost: 127.0.0.1:{watched.port}\r\n\r\n".encode())
@@ -239,7 +243,7 @@ def test_a_page_that_takes_nothing_ends(watched):
 
 
 class Site(http.server.BaseHTTPRequestHandler):
-    """Another web site, whose page tries to read the page at the port in its path. It notes the referrers of requests."""
+    """Another web site. It stores the path and the referrer of every request."""
 
     seen = []
 
@@ -256,7 +260,7 @@ class Site(http.server.BaseHTTPRequestHandler):
 
 @contextlib.contextmanager
 def site():
-    """The port of the other web site."""
+    """Runs the other web site, and yields its port."""
     with http.server.ThreadingHTTPServer(("127.0.0.1", 0), Site) as server:
         threading.Thread(target=server.serve_forever, daemon=True).start()
         try:
@@ -268,7 +272,8 @@ def site():
 @pytest.mark.browser
 @needs_browser
 def test_another_site_in_a_browser(watched, tmp_path):
-    """Another site in the browser gets nothing of the page, even if it knows the URL, or if its name leads to this machine."""
+    """Another site in the browser can't read the page, even if it knows the URL or if its name resolves to this
+    machine."""
     with site() as port:
         browser = Browser(tmp_path, "--host-resolver-rules=MAP site.example 127.0.0.1")
         try:
@@ -289,7 +294,7 @@ def test_another_site_in_a_browser(watched, tmp_path):
                     document.body.append(frame);
                 }})"""
                 assert browser.run(framed) in ("", "refused", None)
-            # This is the page under the host name of the other site.
+            # This URL leads to the page under the host name of the other site.
             browser.ask("Page.navigate", url=f"http://site.example:{watched.port}{watched.path}")
             browser.until("document.body?.innerText.includes('403')")
         finally:
@@ -299,7 +304,7 @@ def test_another_site_in_a_browser(watched, tmp_path):
 @pytest.mark.browser
 @needs_browser
 def test_the_page_works_and_says_its_url_to_nobody(watched, tmp_path):
-    """The page's content policy allows only its own script and its news."""
+    """The page's content security policy allows only its own script and its news."""
     with site() as port:
         browser = Browser(tmp_path)
         try:

@@ -1,4 +1,5 @@
-"""The wheel, and pip from the clone: the programs are in the package, and equal sources give an equal wheel."""
+"""The wheel, and pip run in the clone: the package contains the programs, and identical sources produce an identical
+wheel."""
 
 import configparser
 import os
@@ -22,7 +23,7 @@ SCRIPT = [CLONE / "scripts" / "python-package", "wheel"]
 
 
 def done(*words, **options):
-    """Runs a process, which must succeed; returns the result."""
+    """Runs a process that must succeed, and returns the completed process."""
     finished = subprocess.run(words, capture_output=True, text=True, timeout=300, check=False, **options)
     assert finished.returncode == 0, finished.stdout + finished.stderr
     return finished
@@ -37,7 +38,8 @@ def wheel(request):
 
 @pytest.fixture
 def environment(tmp_path):
-    """A virtual environment in a new folder, without variables that name a program. It uses the system's python-can and pip."""
+    """A function that runs Python in a virtual environment in a new folder. No environment variable names a program.
+    The system's python-can and pip are used."""
     done(sys.executable, "-m", "venv", "--system-site-packages", "--without-pip", tmp_path / "venv")
     kept = {name: value for name, value in os.environ.items() if not name.startswith(("CANBUSD", "PYTHON"))}
 
@@ -60,7 +62,7 @@ PROGRAMS = [
 
 
 def test_what_is_in_the_wheel(wheel, tmp_path):
-    """The wheel has the same programs as `make install` installs."""
+    """The wheel contains the same programs that `make install` installs."""
     done("make", "-s", "-C", CLONE, "install", f"PREFIX={tmp_path}")
     with zipfile.ZipFile(wheel) as opened:
         names = opened.namelist()
@@ -80,7 +82,7 @@ def test_what_is_in_the_wheel(wheel, tmp_path):
 
 @pytest.mark.skipif(shutil.which("gcc") is None, reason="no gcc to build canbusd-run with")
 def test_changed_sources_give_another_wheel(tmp_path):
-    """If canbusd-run in dist/ was built from other sources, the wheel gets one that is built from these sources."""
+    """If canbusd-run in dist/ was built from other sources, the wheel contains one that is built from these sources."""
     copy = copy_of_clone(tmp_path / "clone")
     with open(copy / "canrun" / "command" / "main.c", "a") as source:
         source.write('const char changed[] = "changed by a test";\n')
@@ -92,7 +94,7 @@ def test_changed_sources_give_another_wheel(tmp_path):
 
 
 def copy_of_clone(copy):
-    """Copies the sources of the wheel. The proved sources are those of the repository itself."""
+    """Copies the sources that the wheel is built from. The proved sources are a link to those of the repository."""
     ignored = shutil.ignore_patterns("out", "tests", "build", "*.egg-info", "__pycache__", ".*")
     for name in ("python", "scripts", "canrun", "libcanbusd", "dist", "tools"):
         shutil.copytree(CLONE / name, copy / name, ignore=ignored)
@@ -120,13 +122,13 @@ def test_its_commands_are_those_of_make_install(wheel, tmp_path):
 def test_its_platform_is_that_of_the_program():
     for file in (CLONE / "dist").iterdir():
         if file.read_bytes()[:4] == b"\x7fELF":
-            # A statically linked program needs no library, so objdump finds no dynamic symbols.
+            # A statically linked program uses no shared libraries, so objdump finds no dynamic symbols.
             symbols = subprocess.run(["objdump", "-T", file], capture_output=True, text=True, check=False).stdout
             assert max(map(int, re.findall(r"GLIBC_2\.(\d+)", symbols)), default=0) <= 34, file
 
 
 def tries_the_package(environment, folder):
-    """Runs README's test, and the program's commands."""
+    """Runs the test from README, and the program's commands."""
     (text,) = re.findall(r"^```python\n(.*?)^```$", (CLONE / "README.md").read_text(), re.M | re.S)
     (folder / "test_bus_off.py").write_text(text)
     assert "1 passed" in environment("-m", "pytest", "-q", "test_bus_off.py").stdout
@@ -145,7 +147,7 @@ def tries_the_package(environment, folder):
 
 
 def tries_the_commands(bin, folder):
-    """Runs the commands on the PATH: those of the program and the package, canbusd-run, and candump2bench."""
+    """Runs the commands on the PATH: those of the program and of the package, canbusd-run, and candump2bench."""
     env = {"PATH": f"{bin}:/usr/bin:/bin", "HOME": str(folder)}
 
     def written(*words, **options):
@@ -174,7 +176,7 @@ def tries_the_commands(bin, folder):
         assert written("canbusd-run", "env").count("CANBUSD_INTERFACES=can0,can1") == 1
         server.send_signal(signal.SIGINT)
         assert server.wait(timeout=WAIT) == 0
-    # If CANBUSD names the package's own command, the result is the same.
+    # The result is the same if CANBUSD names the package's own command.
     env["CANBUSD"] = str(bin / "canbusd")
     assert written("canbusd", "audit", "run.rec") == "ok 0 entries\n"
 
@@ -198,7 +200,7 @@ def test_pip_installs_the_same_from_the_clone(wheel, environment, tmp_path):
     (package,) = (tmp_path / "venv" / "lib").glob("python3*/site-packages/canbusd")
     with zipfile.ZipFile(wheel) as opened:
         for name in opened.namelist():
-            # Without git, a copy does not know its commit.
+            # The copied clone has no git repository, so its commit is unknown.
             if name.startswith("canbusd/") and name != "canbusd/COMMIT":
                 assert (package.parent / name).read_bytes() == opened.read(name), name
     tries_the_package(environment, tmp_path)
@@ -221,7 +223,7 @@ def test_a_source_distribution_says_where_the_program_is(environment, tmp_path):
         "-c", "import canbusd\ntry: canbusd.Server('can0')\nexcept canbusd.ProgramNotFound as e: print(e)"
     )
     assert "install the wheel" in said.stdout
-    # The PATH has the package's own command, but no program.
+    # The PATH contains the package's own command, but not the program.
     own = [tmp_path / "venv" / "bin" / "canbusd", "audit", "run.rec"]
     path = {"PATH": f"{own[0].parent}:/usr/bin:/bin"}
     said = subprocess.run(own, env=path, capture_output=True, text=True, timeout=WAIT, check=False)

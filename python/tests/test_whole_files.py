@@ -1,4 +1,5 @@
-"""No user's file gets lost: a command replaces a file by a complete new one, or leaves the file as it was."""
+"""No file of the user is lost: a command either replaces a file with a complete new one or leaves the file unchanged.
+"""
 
 import errno
 import os
@@ -20,7 +21,7 @@ from canbusd._whole_file import replaced
 HERE = Path(__file__).parent
 WAIT = 60
 LOG = "".join(f"({1795910922 + number}.000000) ecu 123#{number:04X}\n" for number in range(2000))
-# A program that runs a command, and prints each file that the command opens for writing, with the mode.
+# A program that runs a command, and prints which files the command writes in place, renames, truncates or removes.
 TRACED = """
 import os, sys
 
@@ -50,7 +51,7 @@ finally:
     for event, *paths in moved:
         print(event, *paths, file=sys.stderr)
 """
-#: The words for each command, and the file that it writes besides standard output, or None.
+#: For each command, its arguments and the file that it writes, or None if it writes only to standard output.
 TRIED = {
     "dump": (["dump", "-T", "50", "can0"], None),
     "send": (["send", "can0", "123#11"], None),
@@ -69,7 +70,7 @@ TRIED = {
 
 
 def convert(folder, *words, **more):
-    """Runs `convert` in this folder, and returns its status and its output."""
+    """Runs `convert` in this folder, and returns its exit status and its output."""
     return call("convert", *words, cwd=folder, **more)
 
 
@@ -91,8 +92,8 @@ def folder(tmp_path):
 
 
 def test_all_commands_are_tried():
-    """All commands of the package are tested here, apart from three kinds: the program writes its own files, a sweep writes into
-    canbusd-sweep, and extcap writes into Wireshark's folder."""
+    """All of the package's commands are tested here, with three exceptions: those for which the program writes its own
+    files, sweep, which writes into canbusd-sweep, and extcap, which writes into Wireshark's folder."""
     assert {*TRIED, "sweep", "extcap"} | {*PROGRAM} == {*COMMANDS, "candump2bench"}
 
 
@@ -115,14 +116,15 @@ def test_nothing_but_its_own_file_is_written(folder, name):
     after = contents(folder)
     assert {path: after.get(path) for path in before} == before
     assert {*after} - {*before} == ({target} if target else set())
-    # The only rename turns the draft into the file.
+    # The only rename gives the draft the name of the file.
     moved = [line.split() for line in said.splitlines() if line.startswith("os.rename ")]
     assert [(line[1].startswith(".canbusd-"), line[2]) for line in moved] == ([(True, target)] if target else [])
 
 
 @pytest.fixture(params=["without a name", "with a name", "without /proc"])
 def drafts(request, monkeypatch):
-    """Three ways to write a draft: without a name, as on most file systems, with a name, and without /proc."""
+    """Three ways to write a draft: as an unnamed file, which most file systems support, as a named file, and without
+    /proc."""
     if request.param == "without /proc":
         monkeypatch.setattr("canbusd._whole_file.OWN_FILES", "/nonexistent")
     if request.param == "with a name":
@@ -207,7 +209,7 @@ def test_a_link_that_somebody_makes_meanwhile_is_not_followed(tmp_path, drafts):
 
 
 def test_a_folder_that_is_moved_meanwhile(tmp_path, drafts):
-    """If the folder is moved and a link takes its place, the file is written into the moved folder, not through the link."""
+    """The folder may be moved and replaced by a link meanwhile. The file is then written into the moved folder."""
     for name in ("folder", "other"):
         (tmp_path / name).mkdir()
     (tmp_path / "other" / "file").write_bytes(b"other")
@@ -239,7 +241,7 @@ def test_a_fifo_gets_the_content_and_stays(tmp_path):
         reader.join(WAIT)
         assert stat.S_ISFIFO(path.lstat().st_mode)
         path.unlink()
-        # The pipe gets the same content as a file, apart from the date in an ASC file.
+        # The pipe receives the same content as a file, except for the date in an ASC file.
         assert convert(tmp_path, "from.log", name)[0] == 0
         assert read[0].splitlines()[1:] == path.read_bytes().splitlines()[1:]
         path.unlink()
@@ -256,7 +258,7 @@ def test_devices(tmp_path):
 
 
 def most_bytes():
-    """Limits the size of files to 1,000 bytes, which has the effect of a full disk."""
+    """Limits the size of files to 1,000 bytes, which has the same effect as a full disk."""
     resource.setrlimit(resource.RLIMIT_FSIZE, (1000, 1000))
 
 
@@ -281,7 +283,7 @@ def test_one_that_is_killed_leaves_the_old_log(tmp_path, number):
     with open(tmp_path / "from.log", "w", encoding="ascii") as source:
         source.write(LOG)
         source.flush()
-        # The command has opened its draft by now, and waits for input.
+        # At this point the command has opened its draft, and waits for input.
         child.send_signal(number)
         assert child.wait(WAIT) == -number
     child.communicate()
@@ -303,14 +305,14 @@ def test_one_log_may_be_both(folder):
 
 
 def as_nobody():
-    """Gives up root, because root may write everywhere."""
+    """Drops the root user's rights, because root may write everywhere."""
     if os.geteuid() == 0:
         os.setresgid(65534, 65534, 65534)
         os.setresuid(65534, 65534, 65534)
 
 
 def test_what_may_not_be_written_is_refused():
-    """A file without permission to write is refused, as by a shell, and so is a folder."""
+    """If the user may not write to the file or to its folder, replacing the file raises PermissionError."""
     code = """
 import os, sys, tempfile
 from canbusd._whole_file import replaced

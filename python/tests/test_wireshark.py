@@ -1,4 +1,5 @@
-"""Captures for Wireshark, which tshark reads: of a log, of a running server, and from Wireshark's list of interfaces."""
+"""Captures for Wireshark, which are read with tshark: from a log, from a running server, and through Wireshark's list
+of interfaces."""
 
 import shutil
 import signal
@@ -17,14 +18,14 @@ from canbusd.server import Server
 
 pytestmark = pytest.mark.skipif(not shutil.which("tshark"), reason="no tshark")
 READY = 0x7FF
-# The fields of a frame in tshark. A flag is written as 1 or True, depending on the version.
+# The tshark fields that describe a frame. A flag is printed as 1 or True, depending on the version.
 FIELDS = "frame.interface_name frame.packet_flags_direction frame.time_epoch can.flags.err can.id can.flags.xtd can.flags.rtr"
 FIELDS_OF_FD = "canfd.flags.brs canfd.flags.esi can.len data.data"
 DIRECTIONS = {"": "", "1": "in", "2": "out"}
 
 
 def read(path):
-    """Returns the frames of a capture: interface, direction, time, and the frame in candump's notation."""
+    """Returns the frames in a capture: interface, direction, timestamp, and the frame in candump's notation."""
     words = [word for name in f"{FIELDS} {FIELDS_OF_FD}".split() for word in ("-e", name)]
     written = subprocess.check_output(
         ["tshark", "-r", path, "-T", "fields", *words], stderr=subprocess.DEVNULL, text=True
@@ -43,7 +44,7 @@ def row_of(name, way, moment, is_error, number, is_extended, is_remote, brs, esi
 
 
 def interfaces_of(path):
-    """Returns the interfaces of a capture and their bit rates, which capinfos prints."""
+    """Returns the interfaces in a capture and their bit rates, as printed by capinfos."""
     written = subprocess.check_output(["capinfos", path], text=True)
     found = {}
     for line in written.split("Interface #0 info:")[1].splitlines():
@@ -56,7 +57,7 @@ def interfaces_of(path):
 
 
 def test_a_log(tmp_path):
-    """Frames have their interfaces and times. They have a direction if the log marks frames as sent."""
+    """Frames have an interface and a timestamp. They have a direction if the log marks frames as sent."""
     log = tmp_path / "run.log"
     log.write_text(
         LOG.replace("123#1122", "123#1122 R").replace("R4", "R4 T") + "(1795910923.100000) late 001##3AABB\n"
@@ -80,7 +81,7 @@ def test_a_log(tmp_path):
 
 
 def test_error_message_frames(tmp_path):
-    """Wireshark shows bus off, and a missing acknowledgement together with its bus error."""
+    """Wireshark shows bus off. It also shows a missing acknowledgement together with the bus error."""
     (tmp_path / "run.log").write_text(
         "(1.000000) a 20000040#0000000000000000\n(1.000000) a 200000A0#0000821A00000000\n"
     )
@@ -95,7 +96,7 @@ def test_error_message_frames(tmp_path):
 
 
 def capturing(server, sender, path, *words):
-    """Starts a capture of a running server. Sends frames until the capture has the first one."""
+    """Starts a capture of a running server, and sends frames until the first of them is in the capture."""
     child = subprocess.Popen(
         words_of("dump", "--pcapng", path, *words),
         env=environment(server),
@@ -111,7 +112,8 @@ def capturing(server, sender, path, *words):
 
 
 def test_each_frame_once(tmp_path):
-    """Each frame occurs once, at the interface of its sender. Error message frames occur at the interface that reports them."""
+    """Every frame is captured once, at the interface of its sender. Error message frames are captured at the interface
+    that reports them."""
     path = tmp_path / "run.pcapng"
     with Server("can0,can1,can2", "body0", bitrate=500_000, data_bitrate=2_000_000, auto_restart=128) as server:
         with server.bus("can0", fd=True) as can0, server.bus("can1") as can1, server.bus("body0") as body:
@@ -139,7 +141,7 @@ def test_each_frame_once(tmp_path):
         assert [one for one in frames if one[0] == name and one[1].startswith(f"{number:03X}#")] == wanted
     assert frames.count(("can0", "12345678##1" + 12 * "00")) == 100
     assert len(frames) == 401
-    # can1 reports error warning, error passive, bus off and the restart. The other interfaces report no change of state.
+    # can1 reports error warning, error passive, bus off and the restart. The other interfaces report no state changes.
     assert {(name, way) for name, way, text in rows if text == "ERROR#"} == {("can1", "in")}
     assert len([text for *_, text in rows if text == "ERROR#"]) in (3, 4)
     moments = [float(moment) for name, _, moment, _ in read(path) if name != "body0"]
@@ -150,8 +152,8 @@ def test_each_frame_once(tmp_path):
 
 
 def test_one_interface(tmp_path):
-    """Frames of the interface's own clients are outbound, and all other frames are inbound. -n limits the number of frames, and
-    filters select frames."""
+    """Frames from the interface's own clients are outbound, and all other frames are inbound. -n limits the number of
+    frames, and filters select which frames are captured."""
     path = tmp_path / "run.pcapng"
     with Server("can0,can1") as server, server.bus("can0") as can0, server.bus("can1") as can1:
         child = capturing(server, can0, path, "-n", "60", "can1,100:700,7FF:7FF")
@@ -165,7 +167,7 @@ def test_one_interface(tmp_path):
 
 
 class Heard:
-    """A stand-in for a session that has received these frames. Further frames wait in its socket."""
+    """A stand-in for a session that has received `frames`. The frames in `later` are still in its socket."""
 
     def __init__(self, *frames, later=()):
         self.frames, self.later = [*frames], [*later]
@@ -180,7 +182,8 @@ class Heard:
 
 
 def test_frames_that_come_one_after_another():
-    """Frames with the same time and text are one frame. If one session is ahead, its frames wait for the other sessions."""
+    """Frames with the same timestamp and content count as one frame. If one session is ahead, its frames wait for those
+    of the other sessions."""
     one, sent = Frame(1, timestamp=5.0), Frame(1, timestamp=5.0, is_rx=False)
     other = Frame(2, timestamp=6.0)
     merged = Merged([("a", Heard(one)), ("b", Heard(later=[sent, other])), ("c", Heard())])
@@ -188,7 +191,8 @@ def test_frames_that_come_one_after_another():
     assert merged.has_more
     assert [(name, str(frame), way) for name, frame, way in merged.take()] == [("b", "002#", 1)]
     assert not merged.has_more
-    # A frame may occur twice at one time, as in virtual time. Two buses may each have the same sent frame.
+    # The same frame may occur twice with one timestamp, as in virtual time. Each of two buses may have sent the same
+    # frame.
     merged = Merged([("a", Heard(one, one)), ("b", Heard(sent, sent))])
     assert [name for name, _, _ in merged.take()] == ["b", "b"]
     merged = Merged([("a", Heard(sent)), ("b", Heard(sent))])
@@ -211,7 +215,7 @@ def test_what_is_refused(tmp_path, words, said):
 
 @pytest.fixture
 def home(tmp_path):
-    """A home folder in which the captures are installed."""
+    """A home folder in which the capture script for Wireshark is installed."""
     folder = tmp_path / "a home"
     done = subprocess.run(
         words_of("extcap", "--install"),
@@ -225,7 +229,8 @@ def home(tmp_path):
 
 
 def test_in_the_list_of_wireshark(home, tmp_path):
-    """The list also works without a server. With one, it has each interface and a capture of all interfaces."""
+    """Without a server, the list contains only the capture of all interfaces. With a server, it also contains each
+    interface."""
 
     def listed(**more):
         words = {**environment(), "HOME": str(home), "CANBUSD_ADDRESS": str(tmp_path / "none"), **more}
@@ -239,7 +244,7 @@ def test_in_the_list_of_wireshark(home, tmp_path):
     with Server("can0,can1") as server, server.bus("can0") as can0:
         every = ["canbusd (canbusd: all interfaces)", "canbusd-can0 (canbusd: can0)", "canbusd-can1 (canbusd: can1)"]
         assert listed(CANBUSD_ADDRESS=server.address) == every
-        # The address of the server is an option of the capture.
+        # The server's address is given as an option of the capture.
         words = ["tshark", "-i", "canbusd", "-o", f"extcap.canbusd.address:{server.address}", "-c", "20", "-w", path]
         elsewhere = {**environment(), "HOME": str(home), "CANBUSD_ADDRESS": str(tmp_path / "none")}
         child = subprocess.Popen(words, env=elsewhere, stderr=subprocess.PIPE)
@@ -250,13 +255,14 @@ def test_in_the_list_of_wireshark(home, tmp_path):
         said = child.communicate()[1]
         assert child.poll() == 0, said
     frames = [(name, way, text) for name, way, _, text in read(path)]
-    # The capture opens one interface after the other. Before it opens can0, it may see a frame of can0 that arrives at can1.
+    # The capture opens one interface after another. Before can0 is open, the capture may receive a frame from can0
+    # through can1, and store it as inbound.
     first = frames.index(("can0", "out", "7FF#"))
     assert frames == first * [("can0", "in", "7FF#")] + (20 - first) * [("can0", "out", "7FF#")]
 
 
 def test_what_wireshark_asks(home, tmp_path):
-    """Any capture filter is refused. If there is no server, the message says so."""
+    """Capture filters are refused. If there is no server, an error message says so."""
     script, server = home / ".config" / "wireshark" / "extcap" / "canbusd", str(tmp_path / "none")
 
     def asked(*words):

@@ -1,4 +1,4 @@
-"""A run is the same whether several processes read it or only one."""
+"""A run is the same whether it is read by several processes or by one."""
 
 import multiprocessing
 import os
@@ -17,7 +17,8 @@ ERRORS = ("1FFFFFFF", "140", "88", "0")
 
 
 def record_of_faults(folder, opens_late):
-    """Returns the record of a bench with faults, bus off, automatic restart, full queues and sockets that are opened later."""
+    """Returns the record of a bench with faults, bus off, automatic restarts and full queues. If `opens_late`, some
+    sockets are opened later."""
     rng = random.Random(opens_late)
     lines, script = [], [f"{number} global bit\n" for number in range(60, 130)]
     script += [
@@ -43,14 +44,14 @@ def record_of_faults(folder, opens_late):
 
 
 def texts_of(record, size):
-    """Returns the event lines of a record in texts of `size` lines."""
+    """Returns the event lines of a record in strings of `size` lines each."""
     with Events() as events:
         lines = "\n".join(events.texts(record)).split("\n")
     return ["\n".join(lines[first : first + size]) for first in range(0, len(lines), size)]
 
 
 def plain(value):
-    """Returns the content of a value as nested lists, so that values can be compared."""
+    """Returns a value as nested lists, so that values can be compared."""
     if isinstance(value, dict):
         return [(plain(key), plain(one)) for key, one in value.items()]
     if isinstance(value, (list, tuple)):
@@ -59,7 +60,7 @@ def plain(value):
 
 
 def state_of(run):
-    """Returns the state of a run, without the objects that read its lines."""
+    """Returns the state of a run, without the objects that read the lines of the run."""
     return plain({name: value for name, value in vars(run).items() if name not in ("_reader", "_waits")})
 
 
