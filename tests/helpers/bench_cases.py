@@ -13,7 +13,7 @@ from serving import ROOT
 
 
 class Case:
-    """The arguments of a command, with its script, its input and its expected output."""
+    """The arguments of a command, the script that they name, the input and the expected output."""
 
     def __init__(self, words):
         self.words, self.script, self.input, self.output = words.split(" "), "", "", ""

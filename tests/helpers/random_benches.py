@@ -36,7 +36,7 @@ FAULTY = [
     "sendfd 123 65", "sendfd 123 1 g", "fdframes", "fdframes 2", "fdframes 1 1", "fdframe", "rawmode 1", "open",
     "open can0 can1", "bcmmode", "bcmmode 1 2", "isotpmode", "controlmode", "Send 123 0", "stat",
 ]  # fmt: skip
-# Further messages. The programs that are compared with canbusd may be too old for them.
+# Further messages. Older programs that are compared with canbusd may not support them.
 NEWER = [
     "sendfdx", "sendfdx 1", "sendfdx 4 123 0", "sendfdx 01 123 0", "sendfdx 1 123 9", "sendfdx x 123 0", "fdframex",
     "load 1",
