@@ -264,8 +264,7 @@ ATTEMPT = re.compile(r"attempt \S+ (\S+) = (?:idle|tried \d+ \d+ (\S+) (\S+) \S+
 
 
 def attempts_in(record: str) -> Iterator[tuple[str, str | None, str | None, bool]]:
-    """Yields the attempts in a record: verdict, frame, outcome, and whether an interface was waiting for its restart.
-    """
+    """Yields the attempts in a record: verdict, frame, outcome, and whether an interface was waiting for its restart."""
     lines = record.splitlines()
     restarts = lines[1].split(" ")[6:] not in ([], ["0"])
     off = 0

@@ -355,8 +355,7 @@ def test_refusals_of_the_manual_page(clone):
 
 
 def test_targets_without_the_toolchain(clone):
-    """make install and make uninstall work even if PREFIX contains a space. The other targets report the missing tools.
-    """
+    """make install and make uninstall work even if PREFIX contains a space. The other targets report the missing tools."""
     status, written = clone.shell(
         'make install PREFIX="$PWD/a place" && cd / && "$OLDPWD/a place/bin/canbusd" --version && '
         '"$OLDPWD/a place/bin/canbusd" report --help && "$OLDPWD/a place/bin/candump2bench" --help'

@@ -35,8 +35,7 @@ def test_what_is_written():
 
 
 def test_a_version_is_written_once(monkeypatch):
-    """A new version in words/version appears in the program, both packages, both manual pages and the name of the metadata folder.
-    """
+    """A new version in words/version appears in the program, both packages, both manual pages and the name of the metadata folder."""
     monkeypatch.setattr(words, "version_and_day", lambda: ("9.8.7", "2027-01-02"))
     places = [*words.VERSIONS, words.metadata()]
     assert [name for name in places if "9.8.7" not in words.written(name)] == []

@@ -28,8 +28,7 @@ Counts = tuple[int, int]
 
 @dataclass
 class Step:
-    """A step is an attempt with a frame, a restart or a down. If an attempt restarts interfaces, a step for each of them follows.
-    """
+    """A step is an attempt with a frame, a restart or a down. If an attempt restarts interfaces, a step for each of them follows."""
 
     #: The kind is done, lastbit, destroyed, noack, restart or down.
     kind: str
@@ -102,8 +101,7 @@ class Replay:
             self.entries += 1
 
     def parts_since(self, counts: Sequence[Counts], lost: Sequence[int]) -> list[str]:
-        """Returns the effects of an entry. The arguments are the error counters and the numbers of lost frames before that entry.
-        """
+        """Returns the effects of an entry. The arguments are the error counters and the numbers of lost frames before that entry."""
         parts = [f"counts {i} {tec} {rec}" for i, (tec, rec) in enumerate(self.counts) if (tec, rec) != counts[i]]
         parts += [f"lost {i} {iface.lost - lost[i]}" for i, iface in enumerate(self.ifaces) if iface.lost != lost[i]]
         queued, dropped = "", collections.Counter[int]()

@@ -38,8 +38,7 @@ ENDINGS = {"done": Ending.DONE, "lastbit": Ending.LAST_BIT, "noack": Ending.NO_A
 
 
 def ending_of(kind: str, verdict: str) -> Ending:
-    """Returns how an attempt with this outcome and this verdict ends. After bit errors and stuff errors the error flag comes early.
-    """
+    """Returns how an attempt with this outcome and this verdict ends. After bit errors and stuff errors the error flag comes early."""
     early = Ending.AFTER_DATA if verdict.startswith(("global-bit", "local-stuff")) else Ending.AFTER_CRC
     return ENDINGS.get(kind, early)
 

@@ -162,8 +162,7 @@ def test_few_file_descriptors(copy):
 
 
 def test_file_past_its_limit(copy):
-    """A file that would exceed its size limit is reported as a write fault, and SIGXFSZ does not terminate the program.
-    """
+    """A file that would exceed its size limit is reported as a write fault, and SIGXFSZ does not terminate the program."""
     assert copy.status("./canbusd", "--version") == 0
     record = copy.folder.parent / "run.rec"
     done = copy.run("bash", "-c", f"ulimit -f 0; printf '' | ./canbusd bench --record '{record}' can0")

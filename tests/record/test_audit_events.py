@@ -29,8 +29,8 @@ receive 2 = data 0 0 123#01FF 0.000002
 attempt 0.000003 good = idle
 end 10
 """
-# The first attempt raises the transmitter's count to 8 and the receiver's count to 1; the good attempt lowers each by
-# 1. Its error message frame takes the only place in socket 1.
+# The first attempt raises the transmitter's count to 8 and the receiver's count to 1. The good attempt lowers each
+# count by one. The error message frame for the first attempt takes the only free entry in the queue of socket 1.
 FAULT = "; counts 0 8 0; counts 1 0 1; put 0:20000088#0000810A00000000 1:20000088#0000040000000000"
 DONE = "; counts 0 7 0; counts 1 0 0; put 2; dropped 1:1"
 EVENTS = (
@@ -194,8 +194,7 @@ def test_a_record_that_is_followed():
 
 
 def test_a_writer_that_fails(tmp_path):
-    """If its output can't be written, an audit exits at once with a write fault, and does not write the output later.
-    """
+    """If its output can't be written, an audit exits at once with a write fault, and does not write the output later."""
     (tmp_path / "run.rec").write_text(RECORD)
     with open("/dev/full", "wb") as full:
         words = [program(), "audit", "--events", "run.rec"]

@@ -270,8 +270,7 @@ def storm(server, rng, count):
 
 
 def test_four_thousand_sessions():
-    """One run serves 4,000 sessions, half of them in raw mode with frames, and only its record makes its memory grow.
-    """
+    """One run serves 4,000 sessions, half of them in raw mode with frames, and only its record makes its memory grow."""
     with disturbed() as (server, pair):
         visit(server, 200)
         before = server.memory("VmRSS")

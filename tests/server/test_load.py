@@ -1,15 +1,15 @@
 """Tests `canbusd serve` with faults: of 64 sessions on 4 buses, no frame is lost without being counted.
 
-On each bus of two interfaces 14 sessions send a quarter of the frames (40,000; --frames in the slow test). Each of them
-receives the frames of three others. Two more sessions break off in the middle of a message, are reset or half closed,
-and come back. A script causes faults of every kind, and bursts of faults that take an interface bus off; a session then
-restarts it. At the end:
+On each of the four buses, which have two interfaces, 14 sessions send a quarter of the frames (40,000 in all; --frames
+in the slow test). Each of them receives the frames of three others. Two more sessions break off in the middle of a
+message, are reset or half closed, and connect again. A script causes faults of every kind, and bursts of faults that
+take an interface bus off; a session then restarts the interface. At the end:
 
-- each session got as many frames and error messages as `stats` counts as taken, and a frame twice only after a fault of
-  the last bit. Frames of one session arrived in the order in which it sent them, and frames of one interface in the
-  order in which the server took them. Frames that a session did not get are counted as dropped;
+- each session got as many frames and error messages as `stats` counts as taken, and a frame twice only after a fault in
+  the last bit. Frames from one session arrived in the order in which it sent them, and frames from one interface in the
+  order in which the server accepted them. Frames that a session did not get are counted as dropped;
 - all frames of an interface are done or lost, and the counts of the sessions, the record and `stats` agree;
-- the server ends with status 0, and the audit of each record is ok.
+- the server exits with status 0, and the audit of every record reports ok.
 """
 
 import argparse

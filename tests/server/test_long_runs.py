@@ -519,8 +519,7 @@ def may_grow(most):
 
 
 def fill(server, pair, *ready):
-    """Sends frames until every function in `ready` has returned a true value, and then checks that the bus still works.
-    """
+    """Sends frames until no function in `ready` returns None, and then checks that the bus still works."""
     for _ in turns("the disk is full, and nothing is said", 3 * WAIT):
         for _ in range(100):
             pair.go_on()
@@ -610,7 +609,7 @@ class SmallDisk:
 
 @pytest.fixture
 def disk():
-    """Yields a file system of 128 kilobytes, and a folder for the test."""
+    """Yields a file system of 128 kilobytes, and the folder at which it is mounted."""
     with tempfile.TemporaryDirectory() as folder:
         found = SmallDisk(128, folder) if shutil.which("unshare") and shutil.which("nsenter") else None
         try:

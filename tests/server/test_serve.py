@@ -138,8 +138,7 @@ def test_verbose_of_another_bus():
 
 
 def test_record_that_a_delivery_finds_full():
-    """If the first call that does not fit into the record is a receive, this is reported, and both sessions continue.
-    """
+    """If the first call that does not fit into the record is a receive, this is reported, and both sessions continue."""
     with serving("--limit", "4", "--pace", "0", "can0,can1") as server:
         can0, can1 = plain(server, "can0"), plain(server, "can1")
         can0.write("< send 123 1 5 >")
@@ -265,8 +264,7 @@ def test_no_web_page(first):
 
 
 def test_slow_reader():
-    """Frames that a slow client does not read are dropped and counted, and no other client waits for the slow client.
-    """
+    """Frames that a slow client does not read are dropped and counted, and no other client waits for the slow client."""
     with serving(
         "--pace", "0", "--txqueue", "1024", "--rxqueue", "100", "can0,can1", address="./slow.socket"
     ) as server:

@@ -213,8 +213,7 @@ def test_nobody_gets_a_frame_before_its_end(nominal: int) -> None:
 @pytest.mark.quiet
 @patiently
 def test_sender_gets_its_frame_at_its_end() -> None:
-    """A sender gets its own frame by loopback only after the end of the frame, but gets the reply to the send at once.
-    """
+    """A sender gets its own frame by loopback only after the end of the frame, but gets the reply to the send at once."""
     rates, frame = Rates(5_000), Frame.read("123#11")
     with serving("--bitrate", "5000", "can0") as server:
         can0 = plain(server, "can0")
