@@ -1,13 +1,13 @@
 #!/bin/sh
-# Takes the steps of a newcomer on the first day, as the documents print them. It needs a fresh minimal Debian 12 or 13.
+# Performs the steps of a newcomer on the first day, as the documents print them. Needs a fresh minimal Debian 12 or 13.
 # Usage: tests/gate/first_day.sh ROUTE, at the top of a clone, as root; test_first_day.py runs it in such systems. ROUTE is
-#   path   the route of README: a clone, PYTHONPATH, and Debian's packages
+#   path   the route in README: a clone, PYTHONPATH, and Debian's packages
 #   here   the same route without installing packages, which `make check` runs in a clone
-#   venv   the route of docs/PYTHON.md: a virtual environment with Debian's packages, without a network
+#   venv   the route in docs/PYTHON.md: a virtual environment with Debian's packages, without a network
 #   pipx   the commands of the wheel, installed by pipx, with Debian's python-can
-#   user   make install into a folder of the user
+#   user   make install into a folder that belongs to the user
 #   pip    a virtual environment into which pip installs the package and its dependencies; status 77 if pip finds none
-#   check  the tests of the program, by the command of README
+#   check  the tests of the program, run with the command in README
 set -eu
 export DEBIAN_FRONTEND=noninteractive
 python=python3

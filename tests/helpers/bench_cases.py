@@ -1,7 +1,8 @@
 """The cases of tests/bench, which describe benches as text.
 
-Each file has several cases. A line with `$` has the arguments of the command, `@` a line of the script that they name, `<` a line
-of input, and `>` a line of output. A line of input after `<~` has no LF. A line that begins with `#` is a comment.
+Each file contains several cases. A line with `$` contains the arguments of the command, `@` a line of the script that
+the arguments name, `<` a line of input, and `>` a line of output. A line of input after `<~` has no LF. A line that
+begins with `#` is a comment.
 """
 
 import glob

@@ -1,9 +1,9 @@
 """Random runs of the bench.
 
-Each case has a random command line, a random input and in most cases a script of faults. Buses have 1 to 16 interfaces, and
-sessions open them. The input has every command of the protocol with good and bad words, messages that are cut or too long, and
-attempts under every verdict. Some cases have FD frames. There are few identifiers, so that frames meet. A few cases have an error
-in a line, the script or the options.
+Each case has a random command line, a random input and usually a fault script. Buses have 1 to 16 interfaces, and
+sessions open them. The input contains every command of the protocol with valid and invalid words, messages that are cut
+or too long, and attempts with every verdict. Some cases contain FD frames. There are few identifiers, so that frames
+compete. A few cases have an error in a line, the script or the options.
 """
 
 import itertools

@@ -1,9 +1,9 @@
 """Tests random and damaged inputs of `canbusd bench` and `audit`.
 
-Inputs are the examples, a record, and random bytes. Bytes, words and lines of them are changed, doubled, moved or cut.
-A run may end with status 0. It may also end with status 1 and one fault line that the manual page lists, followed by at
-most three lines of printable characters that begin with two spaces. A run may not be ended by a signal, take more than
-20 seconds, or write more than its input can ask for.
+The inputs are the examples, a record, and random bytes, in which bytes, words and lines are changed, doubled, moved or
+cut. A run may exit with status 0. It may also exit with status 1 and one fault line that the manual page lists,
+followed by at most three lines of printable characters that begin with two spaces. A run must not be ended by a signal,
+take more than 20 seconds, or write more than its input can request.
 """
 
 import glob

@@ -1,12 +1,12 @@
-"""Tests canbusd when it is refused memory, at one place after another.
+"""Tests canbusd when one request for memory after another is refused.
 
 refuse_memory.c, compiled with cc and preloaded, refuses the n-th request for memory or start of a thread, for each n:
-either only this request, or this one and all later ones. A bench must end with `no memory` after whole lines of its
-output, or report it to a session. In the second case its output and its record are those of an input without the
-refused command. An audit gives its usual reply or says `no memory`. If crates/can_memory_tests is built, it makes each
-call of the libraries: a refused call must change nothing, and return the usual result when it is repeated. A server
-that is refused memory fails only one session: other sessions get their frames, and the record that it writes at its end
-is legal. Finally, the program runs with more and more memory, limited by RLIMIT_AS.
+either only this request, or this one and all later ones. A bench must either exit with `no memory` after complete lines
+of its output, or report the refusal to a session. In the second case its output and its record must be those of an
+input without the refused command. An audit returns its usual reply or says `no memory`. If crates/can_memory_tests is
+built, it performs every call of the libraries: a refused call must change nothing, and return the usual result when it
+is repeated. If a server is refused memory, only one session fails: other sessions get their frames, and the record that
+the server writes when it ends is legal. Finally, the program runs with more and more memory, limited by RLIMIT_AS.
 """
 
 import contextlib

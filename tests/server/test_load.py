@@ -86,7 +86,7 @@ class Client:
         self.socket.sendall(text.encode())
 
     def answer(self):
-        """Returns the next answer. Counts and checks the frames and error messages before it."""
+        """Returns the next answer. Counts and checks the frames and error messages that arrive before it."""
         while not self.answers:
             piece = self.socket.recv(65536)
             assert piece, f"session {self.place} was ended"
