@@ -29,7 +29,7 @@ class Bench:
         self.child.stdin.write(text.encode())
 
     def ask(self, text, answer):
-        """Writes the text, and waits for exactly this answer while the input stays open."""
+        """Writes the string, and waits for exactly this answer while the input stays open."""
         self.write(text)
         got = b""
         while len(got) < len(answer):
@@ -42,7 +42,7 @@ class Bench:
 
 
 def test_bench_in_a_dialogue():
-    """Each answer comes before the next input, even if a piece of input ends within a line."""
+    """Each answer is written before the next input arrives, even if a piece of input ends in the middle of a line."""
     with Bench("can0,can1") as bench:
         bench.ask("session 1\n", "1 < hi >\n")
         bench.ask("session 2\n", "2 < hi >\n")

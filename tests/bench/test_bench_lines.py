@@ -1,4 +1,4 @@
-"""Valid lines of a bench, and the limits of lines, input, lists and queues."""
+"""Valid lines of a bench, and the limits on lines, input, lists and queues."""
 
 import os
 import shutil
@@ -79,8 +79,8 @@ CARRIED_OUT = [
         "feed 1 < send 124 0 >\nfeed 2 < send 048C0000 0 >\nattempt\nattempt\n",
         "tried can1 0 done can0 -\ntried can0 0 done can1 -\n",
     ),
-    # Frames have 45 and 60 bits, with 3 bits of intermission. With BRS, an FD frame has 27 nominal bits, and 32 bits at the data
-    # bit rate.
+    # The frames have 45 and 60 bits, followed by 3 bits of intermission. With BRS, an FD frame has 27 bits at the
+    # nominal bit rate and 32 bits at the data bit rate.
     (
         "bench --bitrate 500000 can0,can1",
         "feed 1 < send 123 0 >< fdframes 1 >< sendfd 123 0 >\nrun 0.000096\nattempt\n",
@@ -99,7 +99,7 @@ CARRIED_OUT = [
 ]
 # Sixteen names of fifteen bytes.
 NAMES = [f"interface-no-{number:02}" for number in range(16)]
-# The record of a frame from the first of these interfaces to the last. All other values are defaults.
+# The record of a frame sent from the first of these interfaces to the last. All other values are defaults.
 SIXTEEN = """canbus record 1
 bus 16 always FFFF 10 1000000
 open 0 256 = socket 0
@@ -113,7 +113,7 @@ end 6
 
 
 def carries_out(line, lines, written):
-    """Returns whether a bench of two sessions writes exactly this output for these lines."""
+    """Returns whether a bench with two sessions writes exactly this output for these lines."""
     return run_line(line, TWO_SESSIONS + lines) == (0, TWO_STARTED + written, "")
 
 
@@ -132,7 +132,7 @@ def test_error_message_frames_are_no_refusals():
 
 
 def test_nobody_acknowledges_without_a_receiver():
-    """If no node acknowledges, an error passive node does not increase its count for that."""
+    """If no node acknowledges a frame, an error passive sender does not increase its error count."""
     text = "session 1\nfeed 1 < open can0 >< rawmode >< send 123 0 >\n" + 17 * "attempt\n"
     output = "1 < hi >\n1 < ok >< ok >\n" + 17 * "tried can0 0 noack - -\n"
     assert run_line("bench --ack peers can0", text) == (0, output, "")
@@ -178,7 +178,8 @@ def test_limit_of_the_input():
 
 @pytest.mark.skipif(not shutil.which("cc"), reason="no C compiler: cc")
 def test_limit_of_the_reads(tmp_path):
-    """If each read gives only one byte (short_reads.c), the longest input takes all reads, and none is left to find its end."""
+    """If each read returns only one byte (short_reads.c), the longest input uses up all reads, and no read is left to
+    detect the end of the input."""
     library, text = tmp_path / "short_reads.so", tmp_path / "input"
     source = os.path.join(ROOT, "tests", "helpers", "short_reads.c")
     subprocess.run(["cc", "-O2", "-Wall", "-Werror", "-fPIC", "-shared", "-o", library, source], check=True)
@@ -232,7 +233,8 @@ def test_a_bus_has_16_interfaces(tmp_path):
 
 
 def test_a_long_run(tmp_path):
-    """The record has two opens, and four entries a round: a send, an attempt and two receives. The second receive finds no frame.
+    """The record has two opens, and four entries per round: a send, an attempt and two receives. The second receive
+    finds no frame.
     """
     lines = 4000 * "feed 1 < send 123 0 >\nattempt\ndrain 2\n"
     rounds = [f"tried can0 {number} done can1 -\n2 < frame 123 0.000000  >\n" for number in range(4000)]

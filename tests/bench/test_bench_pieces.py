@@ -1,4 +1,4 @@
-"""Inputs of a bench, complete or one byte at a time: the reports on lines and messages are the same."""
+"""Inputs to a bench, given at once or one byte at a time: the reports on lines and messages are the same."""
 
 import pytest
 
@@ -78,7 +78,8 @@ FAULTY = [
 
 
 def runs(line, text, wanted):
-    """Checks that this command line gives this status, output and errors for the input, complete or one byte at a time."""
+    """Checks that this command line yields this status, output and errors for the input, whether it is given at once or
+    one byte at a time."""
     for run in (run_line, run_bytes):
         assert run(line, text) == wanted
 
@@ -103,7 +104,7 @@ def test_lines_that_are_refused(line, shown, note):
 
 @pytest.mark.parametrize("count", [0, 1, 1023, 1024, 1025, 2048, 2049, 5000])
 def test_a_line_far_down_is_refused(count):
-    """This many lines of 8 bytes come before the refused line. In some cases they are more than the program keeps."""
+    """`count` lines of 8 bytes come before the refused line. In some cases they are more than the program buffers."""
     line = count + 1
     errors = (
         f"canbusd: line {line}: bad line\n  standard input:{line}: drain 64\n  no line before it starts session 64\n"

@@ -1,4 +1,4 @@
-"""Benches as texts: the input, and the expected output, which was worked out from the rules of the bus."""
+"""Benches described as text: the input, and the expected output, which was worked out from the rules of the bus."""
 
 import subprocess
 

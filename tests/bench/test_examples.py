@@ -1,4 +1,4 @@
-"""The worked examples give the outputs in the files next to them. These outputs follow from the rules of the bus."""
+"""The worked examples produce the outputs in the files next to them. These outputs follow from the rules of the bus."""
 
 import os
 import re
@@ -12,7 +12,7 @@ from serving import ROOT
 
 @pytest.mark.parametrize("name", examples())
 def test_example(program, name):
-    """The first lines of an example show its command line, after `./canbusd`."""
+    """The first lines of an example show its arguments, after `./canbusd`."""
     bench, expected = (os.path.join(ROOT, "examples", f"{name}.{ending}") for ending in ("bench", "out"))
     with open(bench, encoding="utf-8") as file:
         words = re.search(r"\./canbusd (.*) < examples/", file.read())[1].split()

@@ -1,7 +1,6 @@
-"""Fault rules: on random runs and texts, the program gives the same verdicts as rule_model.py. Each way to give a rule works.
-
-The model computes the verdict of each attempt in a record, and the number of remaining rules in each answer. The package decides
-whether a text is a rule.
+"""Fault rules: on random runs and strings, the program computes the same verdicts as rule_model.py. Every way to give a
+rule works. The model computes the verdict of each attempt in a record, and the number of remaining rules in each
+answer. The package decides whether a string is a rule.
 """
 
 import itertools
@@ -25,7 +24,7 @@ SENDERS = re.compile(f"(?:next (?!0+ )[0-9]{{1,8}}|always) from ({NAMES})(?: |$)
 
 
 def fault_of(text, names, faults):
-    """Returns the error for this text as a rule on a bus with these faults, or None if the bus accepts the rule."""
+    """Returns the error for this string as a rule on a bus with these faults, or None if the bus accepts the rule."""
     try:
         rule = parse_rule(text)
     except ValueError:
@@ -41,7 +40,7 @@ def fault_of(text, names, faults):
 
 
 def answer(text, names, faults):
-    """Returns the answer to a message about rules, after it has changed the faults accordingly."""
+    """Changes the faults as a message about rules requests, and returns the answer to the message."""
     command, _, words = " ".join(text.split()).partition(" ")
     if command == "faults":
         return f"< faults {len(faults.rules)} >"
@@ -103,8 +102,8 @@ def difference(program, case, folder):
 
 
 def shown_difference(program, case, folder, lines, ends):
-    """Returns the first difference if the same run is made with `--show-faults`, which adds these ends to the lines of attempts
-    with a frame."""
+    """Runs the same case with `--show-faults`, which adds these ends to the lines of attempts with a frame. Returns the
+    first difference."""
     done = run(program, ["bench", "--show-faults", *case.words[1:]], case.text, folder)
     wanted = [line + next(ends) if line.startswith("tried ") else line for line in lines]
     pairs = itertools.zip_longest(done.stdout.decode().splitlines(), wanted)
@@ -113,9 +112,10 @@ def shown_difference(program, case, folder, lines, ends):
 
 @pytest.mark.parametrize("count", [200, pytest.param(2000, marks=pytest.mark.slow)])
 def test_random_runs(request, program, tmp_path, count):
-    """The model gives the same verdicts and the same answers as the program. The files of a run that differs are kept."""
+    """The model computes the same verdicts and the same answers as the program. The files of a run that differs are
+    kept."""
     maker, faults = RuleMaker(request.config.getoption("seed")), []
-    # Other tests cover lines that end a bench with an error. Here a 65th rule is only given by a message.
+    # Other tests cover lines that end a bench with an error. Here only a message gives a 65th rule.
     cases = filter(lambda case: not overfull(case), iter(maker.case, None))
     for number, case in enumerate(itertools.islice(cases, count)):
         differs = difference(program, case, tmp_path / str(number % 2))
@@ -126,7 +126,7 @@ def test_random_runs(request, program, tmp_path, count):
 
 
 def overfull(case):
-    """Returns whether a line of this case might give more rules than a bus takes."""
+    """Returns whether a line of this case might give more rules than a bus accepts."""
     given = sum(kind in ("line", "message") for kind, _ in case.operations) + len(lines_of(case.script))
     return given > MOST_RULES and any(kind == "line" for kind, _ in case.operations)
 
@@ -141,7 +141,7 @@ def test_the_same_input_gives_the_same_output(request, program, tmp_path):
 
 
 def test_random_texts_in_messages(program, rng, cases, tmp_path):
-    """The program and the package agree on whether a text is a rule, and on the reason if it is none."""
+    """The program and the package agree on whether a string is a rule, and on the reason if it is not."""
     maker, names = RuleMaker(rng.random()), ["can0", "can1"]
     rules = [maker.rule(names) for _ in range(cases)]
     texts = [text.encode("ascii", "ignore").decode() for text in map(maker.changed, rules)]
@@ -156,7 +156,7 @@ def test_random_texts_in_messages(program, rng, cases, tmp_path):
 
 @pytest.mark.parametrize("count", [50, pytest.param(1000, marks=pytest.mark.slow)])
 def test_random_texts_in_scripts_and_lines(program, rng, tmp_path, count):
-    """Each wrong text is reported with its line number and a note."""
+    """Each invalid rule is reported with its line number and a note."""
     maker, names = RuleMaker(rng.random()), ["can0", "can1"]
     for _ in range(count):
         text = maker.changed(maker.rule(names))
@@ -171,14 +171,14 @@ def test_random_texts_in_scripts_and_lines(program, rng, tmp_path, count):
 
 
 def check_report(done, reported, text):
-    """Checks the end of a run: with this error and a note, or without an error."""
+    """Checks that a run ended with this error and a note, or without an error."""
     first, *notes = done.stderr.decode().splitlines() or [""]
     assert (done.returncode, first) == ((1, f"canbusd: {reported}") if reported else (0, "")), text
     assert bool(notes) is bool(reported) and all(note.startswith("  ") for note in notes), notes
 
 
 def test_64_rules(program, tmp_path):
-    """However a 65th rule is given, it is refused and changes nothing."""
+    """A 65th rule is refused and changes nothing, whichever way it is given."""
     (tmp_path / "full.script").write_text("always good\n" * 64)
     (tmp_path / "more.script").write_text("always good\n" * 64 + "\n" + LASTBIT)
     done = run(program, ["bench", "can0@more.script"], "", tmp_path)
@@ -224,7 +224,7 @@ def test_a_rule_without_words(program, tmp_path):
     assert done.stdout.decode().splitlines()[-1] == "1 < ok >< error bad word count >< error unknown command >"
 
 
-# The verdicts of a rule, and the number of items that two receivers get for one frame.
+# The verdicts of a rule, and how many items two receivers get for one frame.
 VERDICTS = {
     "global bit": (1, 1),
     "global form": (1, 1),
@@ -236,7 +236,7 @@ VERDICTS = {
 
 @pytest.mark.parametrize("verdict, copies", VERDICTS.items())
 def test_a_rule_from_a_socket(verdict, copies):
-    """The rule applies from the next attempt on, and only to the bus of the session's interface."""
+    """The rule applies from the next attempt onwards, and only to the bus of the session's interface."""
     with serving("can0,can1,can2", "car0,car1") as server:
         giver, sender, *receivers = [Plain(server), *(plain(server, name) for name in ("can0", "can1", "can2"))]
         assert [giver.text(), giver.answer("< open can1 >")] == ["< hi >", "< ok >"]
@@ -274,7 +274,7 @@ def test_refusals_to_a_socket():
 
 
 def test_no_rules_keeps_the_script(program, tmp_path):
-    """`nofaults` keeps numbered lines, and numbered lines decide before rules."""
+    """`nofaults` keeps the numbered lines of the script, and numbered lines are applied before rules."""
     (tmp_path / "my.script").write_text("1 global form\nalways lastbit\n2 good\n")
     asks = ["session 1", "feed 1 < open can0 >< rawmode >< send 123 0 >", "attempt", "feed 1 < nofaults >"]
     words = ["bench", "--record", RECORD, "can0@my.script"]
@@ -285,7 +285,7 @@ def test_no_rules_keeps_the_script(program, tmp_path):
 
 
 def test_one_node_of_two_goes_bus_off(program, tmp_path):
-    """A single frame of a node suffices to make it bus off, whatever the other node sends in between."""
+    """The frame of one node is enough to take that node bus off, whatever the other node sends in between."""
     opening = "".join(f"session {n}\nfeed {n} < open {name} >< rawmode >\n" for n, name in ((1, "ecu"), (2, "tester")))
     turns = "feed 2 < send 100 0 >\nfeed 1 < send 200 0 >\nattempt\nattempt\n" * 40
     done = run(program, ["bench", "ecu,tester"], f"{opening}fault next 32 from ecu global bit\n{turns}", tmp_path)
@@ -309,7 +309,7 @@ def verdicts(faults, *attempts):
     return [faults.decide(winner, word)[0] for winner, word in attempts]
 
 
-# The following tests check the model itself against the words of the design.
+# The following tests check the model itself against the wording of the design.
 
 
 def test_who_sends_and_what():

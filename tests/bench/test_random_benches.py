@@ -1,8 +1,7 @@
-"""`canbusd bench` compared with an independent program, on random runs.
-
-The program is benches/limit.c, or the one of --other SOURCE.c, compiled with cc. It is called as `PROGRAM bench OPTIONS BUS`, like
-canbusd. Standard output, the status and the line of an error must be equal. For an error in the command line, only the status must
-be equal.
+"""`canbusd bench` compared with an independent program, on random runs. The independent program is benches/limit.c, or
+the source file that --other names, compiled with cc. It is called as `PROGRAM bench OPTIONS BUS`, like canbusd.
+Standard output, the status and the line of an error must be equal. For an error in the command line, only the status
+must be equal.
 """
 
 import itertools
@@ -38,7 +37,7 @@ def difference(one, other):
     """Returns the first difference between two runs, or None if they agree."""
     if one.returncode != other.returncode:
         return f"status {one.returncode}, other {other.returncode}: {one.stderr!r}, other {other.stderr!r}"
-    # Only canbusd writes lines after the line of an error, or after a complete run.
+    # Only canbusd writes further lines to standard error, after the line of an error or after a complete run.
     if one.returncode == 1 and one.stderr.splitlines()[:1] != other.stderr.splitlines()[:1]:
         return f"standard error {one.stderr!r}, other {other.stderr!r}"
     lines = itertools.zip_longest(one.stdout.split(b"\n"), other.stdout.split(b"\n"))

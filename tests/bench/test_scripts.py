@@ -45,7 +45,7 @@ FOLLOWED = [
         "1 < ok >< faults 2 >\ntried can0 0 lastbit can1 -\n2 < ok >< faults 0 >\ntried can1 0 done can0 -\n",
     ),
 ]
-# A script, the error, the place and the text of the wrong line, and a note.
+# A script, the error, the position and content of the wrong line, and a note.
 FAULTY = [
     (
         b"0 good\n5 local crc can1\n# 05\n05 good",
@@ -121,7 +121,7 @@ FAULTY = [
 
 
 def carries_out(script, lines, written, folder, *options):
-    """Returns whether a bench of two sessions with this script writes exactly this output."""
+    """Returns whether a bench with two sessions and this script writes exactly this output."""
     (folder / "a.script").write_text(script)
     line = " ".join(["bench", *options, "can0,can1@a.script"])
     return run_line(line, TWO_SESSIONS + lines, cwd=folder) == (0, TWO_STARTED + written, "")
@@ -137,7 +137,7 @@ def test_scripts_that_are_followed(script, lines, written, tmp_path):
     [("lastbit", "lastbit can1", f"2 {'< frame 123 0.000000  >' * 32}\n"), ("global bit", "destroyed -", "")],
 )
 def test_bus_off_after_32_faults(verdict, tried, heard, tmp_path):
-    """The frame is tried until its interface is bus off. Then the queue is empty, and no frame is accepted."""
+    """The frame is tried until its interface is bus off. Then the queue is empty, and no further frame is accepted."""
     script = "".join(f"{number} {verdict}\n" for number in range(32))
     sends = "feed 1 < send 123 0 >< send 124 0 >\n"
     lines = sends + 32 * "attempt\n" + "drain 2\nfeed 1 < send 123 0 >\nattempt\n"

@@ -1,4 +1,4 @@
-"""`canbusd bench --bitrate` gives the same times as wire_times.py, which is independent of the program."""
+"""`canbusd bench --bitrate` computes the same times as wire_times.py, which is independent of the program."""
 
 from __future__ import annotations
 
@@ -19,15 +19,16 @@ from wire_model import KNOWN_LENGTHS, Frame, bit_counts, random_data
 from wire_times import Ending, Message, Rates, Release, Sent, ending_of, simulated, use, worst_response
 
 LAST = 1_000_000 * MICRO
-# The last nanosecond that a time can have.
+# The latest time that can be given, in nanoseconds.
 LATEST = 10**19 - 1
 
-# Three messages of 216 us with intermission at 500 kbit/s, with periods of 2.5, 3.5 and 3.5 of these. The second instance of the
-# third message has the worst response (Davis, Burns, Bril and Lukkien, Real-Time Systems 35, 2007, section 3.2).
+# Three messages of 216 us each, including intermission, at 500 kbit/s. Their periods are 2.5, 3.5 and 3.5 times that
+# duration. The second instance of the third message has the worst response (Davis, Burns, Bril and Lukkien, Real-Time
+# Systems 35, 2007, section 3.2).
 THREE = [Frame.read(text) for text in ("001#55555555555505", "002#55555555555503", "003#5555555555557C")]
 PERIODS = [540 * MICRO, 756 * MICRO, 756 * MICRO]
 
-# Failing attempts: `--ack`, the verdict, the output, and the place of the error flag.
+# Failed attempts: the value of `--ack`, the verdict, the output, and where the error flag begins.
 FAILED = [
     ("always", "lastbit", "lastbit can1 -", Ending.LAST_BIT),
     ("always", "global bit", "destroyed - -", Ending.AFTER_DATA),
@@ -44,7 +45,7 @@ def interfaces(count: int) -> list[str]:
 
 
 def lines_of(releases: Iterable[Release]) -> list[str]:
-    """Returns lines that queue the frames at their times, and run the bus in between."""
+    """Returns input lines that queue the frames at their times, and run the bus in between."""
     lines: list[str] = []
     now = -1
     for release in sorted(releases, key=lambda release: release.time):
@@ -68,7 +69,7 @@ def expected_lines(sent: Iterable[Sent], nodes: int) -> list[str]:
 
 
 def check(program: str, releases: Sequence[Release], nodes: int, rates: Rates) -> list[Sent]:
-    """Checks that a bench sends these frames like the model, and returns the model's result."""
+    """Checks that a bench sends these frames as the model does, and returns the model's result."""
     sent = list(simulated(releases, rates))
     options = [*rate_options(rates), "--txqueue", "1024", "--rxqueue", "1"]
     assert bench(program, options, interfaces(nodes), lines_of(releases)) == expected_lines(sent, nodes)
@@ -76,7 +77,7 @@ def check(program: str, releases: Sequence[Release], nodes: int, rates: Rates) -
 
 
 def test_second_instance_responds_last(program: str) -> None:
-    """The times equal those of the example in the repository. The worst response equals the bound."""
+    """The times are those of the example in the repository. The worst response equals the bound."""
     rates = Rates(500_000)
     messages = [Message(frame, period) for frame, period in zip(THREE, PERIODS)]
     releases = [r for node, message in enumerate(messages) for r in message.releases(node, 0, 1_080 * MICRO + 1)]
@@ -103,7 +104,7 @@ def test_example(program: str) -> None:
 
 
 def random_messages(maker: random.Random, rates: Rates) -> list[Message]:
-    """Returns messages in falling priority that do not fill the bus."""
+    """Returns messages in order of falling priority that do not fill the bus."""
     while True:
         messages = []
         share = maker.uniform(0.3, 0.97)
@@ -120,8 +121,8 @@ def random_messages(maker: random.Random, rates: Rates) -> list[Message]:
 
 
 def test_responses_of_random_messages(program: str, rng: random.Random, cases: int) -> None:
-    """The bench agrees with the model, and no response is worse than the analysis allows. If all messages are released at once, the
-    lowest priority reaches its bound, because no message blocks it."""
+    """The bench agrees with the model, and no response takes longer than the analysis allows. If all messages are
+    released at once, the message of the lowest priority reaches its bound, because no message blocks it."""
     met = 0
     for case in range(max(6, cases // 40)):
         rates = Rates(rng.choice([10_000, 125_000, 250_000, 500_000, 1_000_000]))
@@ -195,8 +196,8 @@ def test_failed_attempts(program: str, rng: random.Random, ack: str, verdict: st
 
 
 def test_restart_by_attempts(program: str) -> None:
-    """With `--auto-restart 128` each attempt, failed or not, counts as one run of 11 recessive bits. The interface is back after
-    another one has sent 128 frames."""
+    """With `--auto-restart 128` each attempt, failed or not, counts as one run of 11 recessive bits. The interface is
+    back after another interface has sent 128 frames."""
     rates = Rates(500_000)
     sent = Frame.read("123#")
     other = Frame.read("100#")
@@ -218,8 +219,8 @@ def test_restart_by_attempts(program: str) -> None:
 
 @pytest.mark.parametrize("nominal, restart", [(500_000, 128), (5_000, 1), (83_333, 7), (1_000_000, 1_000)])
 def test_restart_on_an_idle_bus(program: str, nominal: int, restart: int) -> None:
-    """On an idle bus, a run makes the attempts that an interface needs for its restart. Each has 11 recessive bits, as for
-    `attempt` in the input."""
+    """On an idle bus, a run performs the attempts that an interface needs for its restart. Each takes 11 recessive
+    bits, as `attempt` in the input does."""
     rates, sent = Rates(nominal), Frame.read("123#")
     over = 32 * rates.attempt_nanos(sent, Ending.AFTER_DATA)
     ends = [moment(over + number * rates.idle_nanos()) for number in range(1, restart + 1)]
@@ -233,8 +234,8 @@ def test_restart_on_an_idle_bus(program: str, nominal: int, restart: int) -> Non
 
 
 def test_moments_of_idle_attempts_do_not_fall(program: str) -> None:
-    """A long FD frame that is destroyed after its data would have ended 19 bits after the end of its attempt. So the next attempt
-    of 11 bits gets the same time."""
+    """A long FD frame that is destroyed after its data would have ended 19 bits after the end of its attempt. So the
+    next attempt, which takes 11 bits, gets the same time."""
     rates, sent = Rates(1_000_000), Frame(0x123, False, bytes([0x55] * 64), is_fd=True)
     step, length = rates.attempt_nanos(sent, Ending.AFTER_DATA), rates.frame_nanos(sent)
     assert length - step == 19 * 1_000
@@ -257,12 +258,13 @@ def without_moments(output: bytes) -> bytes:
     return re.sub(rb"(< (?:frame|fdframe|fdframex [0-3]|remote|error) [0-9A-F]+) [0-9]+\.[0-9]{6}", rb"\1", lines)
 
 
-# Matches an attempt of a record: verdict, frame, outcome, interfaces that went bus off, and interfaces that were restarted.
+# Matches an attempt in a record: verdict, frame, outcome, interfaces that went bus off, and interfaces that were
+# restarted.
 ATTEMPT = re.compile(r"attempt \S+ (\S+) = (?:idle|tried \d+ \d+ (\S+) (\S+) \S+ (\S+))(?: restarted (\S+))?$")
 
 
 def attempts_in(record: str) -> Iterator[tuple[str, str | None, str | None, bool]]:
-    """Yields the attempts of a record: verdict, frame, outcome, and whether an interface waited for its restart."""
+    """Yields the attempts in a record: verdict, frame, outcome, and whether an interface was waiting for its restart."""
     lines = record.splitlines()
     restarts = lines[1].split(" ")[6:] not in ([], ["0"])
     off = 0
@@ -276,8 +278,8 @@ def attempts_in(record: str) -> Iterator[tuple[str, str | None, str | None, bool
 
 
 def moments_of(text: bytes, record: str, rates: Rates) -> list[str]:
-    """Returns the times of the attempts of an input, computed from the frames and outcomes in its record. An attempt without a
-    frame takes 11 bits while an interface waits for its restart, and times never decrease."""
+    """Returns the times of the attempts in an input, computed from the frames and outcomes in its record. An attempt
+    without a frame takes 11 bits while an interface waits for its restart, and times never decrease."""
     attempts = attempts_in(record)
     moments, now, free, last = [], 0, 0, 0
     for line in text.split(b"\n"):
@@ -299,7 +301,8 @@ def moments_of(text: bytes, record: str, rates: Rates) -> list[str]:
 
 
 def test_random_runs(program: str, request: pytest.FixtureRequest, cases: int, tmp_path: pathlib.Path) -> None:
-    """In random runs with faults of every kind, bit rates change only the times and the load, and the times are those of the model.
+    """In random runs with faults of every kind, bit rates change only the times and the load, and the times agree with
+    the model.
     """
     seed = request.config.getoption("seed")
     maker, rng = random_benches.Maker(seed), random.Random(seed)
@@ -376,7 +379,7 @@ def test_bad_lines(program: str, words: str, lines: str, number: int, note: str)
 
 
 def test_moments_are_set(program: str) -> None:
-    """`at` delays the next attempt, and no waiting frame is sent earlier. It never shortens the attempt before."""
+    """`at` delays the next attempt, and no waiting frame is sent earlier. It never shortens the previous attempt."""
     lines = [*3 * ["feed 1 < send 123 0 >"], "attempt", "at 0.000010", "attempt", "at 0.000500", "attempt", "attempt"]
     assert bench(program, ["--bitrate", "500000"], ["can0"], lines) == [
         "tried can0 0 done - - at 0.000090",
@@ -402,7 +405,7 @@ def test_frames_have_their_moment(program: str, tmp_path: pathlib.Path) -> None:
 
 
 def loads(program: str, options: Sequence[str], lines: Iterable[str]) -> list[str]:
-    """Returns the answers to `< load >`, which replaces each line `load` of the input."""
+    """Returns the answers to `< load >`, which replaces each input line `load`."""
     opened = ["session 1", "feed 1 < open can0 >< rawmode >< fdframes 1 >"]
     asked = ["feed 1 < load >" if line == "load" else line for line in lines]
     words = [program, "bench", *options, "can0"]
@@ -412,10 +415,11 @@ def loads(program: str, options: Sequence[str], lines: Iterable[str]) -> list[st
 
 
 def test_the_load_of_a_bench(program: str) -> None:
-    """Each frame has 50 bits and 3 bits of intermission, 10.6 ms at 5 kbit/s."""
+    """Each frame has 50 bits and 3 bits of intermission, which take 10.6 ms at 5 kbit/s."""
     sent = "feed 1 < send 000 0 >"
     lines = ["load", sent, sent, sent, "run 0.500000", "load", "at 1.000000", "load"]
-    # The frame takes from 1.9947 to 2.0053: 5.3 ms of each second. An attempt without a frame adds no load.
+    # The frame lasts from 1.9947 to 2.0053 s, so it takes 5.3 ms of each of the two seconds. An attempt without a frame
+    # adds no load.
     lines += [sent, "at 1.994700", "attempt", "load", "attempt", "at 3.500000", "load", "at 4.000000", "load"]
     assert loads(program, ["--bitrate", "5000"], lines) == [
         "0 0 5000 5000",
@@ -428,7 +432,8 @@ def test_the_load_of_a_bench(program: str) -> None:
 
 
 def test_the_load_of_an_fd_frame(program: str) -> None:
-    """With 64 zero bytes, 27 bits and 3 of intermission at 5 kbit/s take 6 ms, and 651 bits at 50 kbit/s take 13.02 ms."""
+    """With 64 zero bytes, the 27 nominal bits and 3 bits of intermission take 6 ms at 5 kbit/s, and the 651 data bits
+    take 13.02 ms at 50 kbit/s."""
     frame = Frame(0x123, False, bytes(64), is_fd=True, brs=True)
     lines = [f"feed 1 {send(frame)}", "attempt", "at 1.000000", "load"]
     assert loads(program, ["--bitrate", "5000", "--dbitrate", "50000"], lines) == ["19 19020 5000 50000"]
@@ -442,7 +447,7 @@ def test_without_bit_rates(program: str) -> None:
 
 
 def recorded(program: str, rates: Rates, maker: random.Random, path: str) -> list[str]:
-    """Returns the lines of a record in which frames of two interfaces fail or are sent."""
+    """Returns the lines of a record in which frames from two interfaces fail or are sent."""
     lines = []
     for _ in range(30):
         lines.append(f"fault next 1 {maker.choice(['lastbit', 'global bit', 'local crc can1', 'good'])}")
@@ -459,8 +464,8 @@ def recorded(program: str, rates: Rates, maker: random.Random, path: str) -> lis
 
 
 def test_replay_of_moments(program: str, rng: random.Random, tmp_path: pathlib.Path) -> None:
-    """If the input never waits, attempts follow without gaps, so the replay reports nothing. It does report an attempt that is 2
-    microseconds too early, or a bit rate that is too low."""
+    """If the input never waits, attempts follow one another without gaps, so the replay reports nothing. It does report
+    an attempt that is 2 microseconds too early, or a bit rate that is too low."""
     path = str(tmp_path / "can0.rec")
     for _ in range(3):
         rates = random_rates(rng)

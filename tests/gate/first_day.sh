@@ -1,18 +1,18 @@
 #!/bin/sh
-# Takes the steps of a newcomer on the first day, as the documents print them. It needs a fresh minimal Debian 12 or 13.
+# Performs the steps of a newcomer on the first day, as the documents print them. Needs a fresh minimal Debian 12 or 13.
 # Usage: tests/gate/first_day.sh ROUTE, at the top of a clone, as root; test_first_day.py runs it in such systems. ROUTE is
-#   path   the route of README: a clone, PYTHONPATH, and Debian's packages
+#   path   the route in README: a clone, PYTHONPATH, and Debian's packages
 #   here   the same route without installing packages, which `make check` runs in a clone
-#   venv   the route of docs/PYTHON.md: a virtual environment with Debian's packages, without a network
+#   venv   the route in docs/PYTHON.md: a virtual environment with Debian's packages, without a network
 #   pipx   the commands of the wheel, installed by pipx, with Debian's python-can
-#   user   make install into a folder of the user
+#   user   make install into a folder that belongs to the user
 #   pip    a virtual environment into which pip installs the package and its dependencies; status 77 if pip finds none
-#   check  the tests of the program, by the command of README
+#   check  the tests of the program, run with the command in README
 set -eu
 export DEBIAN_FRONTEND=noninteractive
 python=python3
 
-# Runs commands of a document exactly as they are printed. Each is named by the beginning of its line.
+# Runs commands from a document exactly as they are printed. Each command is named by the beginning of its line.
 printed() {
     document=$1
     shift
@@ -27,7 +27,7 @@ printed() {
     done
 }
 
-# Runs a command in a table of a document exactly as it is printed. The command is named by its beginning.
+# Runs a command from a table in a document exactly as it is printed. The command is named by its beginning.
 in_table() {
     line=$(grep -o "\`$2[^\`]*\`" "$1" | head -n 1 | tr -d '\`')
     [ -n "$line" ] || {
@@ -38,7 +38,7 @@ in_table() {
     eval "$line"
 }
 
-# Prints the only block of Python in a document that has this word.
+# Prints the only block of Python in a document that contains this word.
 block() {
     awk -v word="$2" '/^```python$/ { text = ""; on = 1; next } /^```$/ { if (on && text ~ word) printf "%s", text; on = 0 }
         on { text = text $0 "\n" }' "$1"
@@ -50,7 +50,7 @@ install() {
     apt-get install -qq -y --no-install-recommends $1 >/dev/null
 }
 
-# Prints the packages in the line of a document that installs this package.
+# Prints the packages listed on the line of a document that installs this package.
 packages_of() {
     sed -n "s/.*apt-get install \([^\`]*\).*/\1/p" "$1" | grep -m 1 -- "$2"
 }
@@ -88,7 +88,7 @@ try_package() {
     $python -m pytest -q -p no:cacheprovider test_bus_off.py
 }
 
-# Runs the installed commands in a folder that is not in a clone.
+# Runs the installed commands in a folder outside the clone.
 try_commands() {
     cd /
     canbusd --version
@@ -111,7 +111,7 @@ try_first() {
     ./canbusd --help | grep "canbusd <COMMAND>\|canbusd COMMAND"
 }
 
-# Makes the record and the page of the guide.
+# Creates the record and the page of the guide.
 try_page() {
     printed docs/GUIDE.md "./canbusd bench --record run.rec" "./canbusd report --names can0,can1,can2 run.rec"
     ./canbusd audit run.rec

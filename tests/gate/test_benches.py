@@ -39,6 +39,6 @@ def test_examples(built, name):
 
 @pytest.mark.slow
 def test_the_server_and_its_client(built):
-    """The client finds each deliberate bug of a server, and no bug in a correct server."""
+    """The client finds every deliberate bug of a server, and no bug in a correct server."""
     done = subprocess.run([built / "serve_test.py"], capture_output=True, text=True, check=False)
     assert done.returncode == 0, done.stdout + done.stderr

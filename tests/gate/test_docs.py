@@ -1,8 +1,6 @@
-"""The documents, as a newcomer would try them: every link, and the commands of README, the guide and the manual page exactly as
-written.
-
-The commands run in a clone of the last commit, without the command rt on the PATH. If CANBUSD names a program, the clone uses this
-program in place of its own.
+"""The documents, tried as a newcomer would: every link, and the commands in README, the guide and the manual page
+exactly as written. The commands run in a clone of the last commit, without the command rt on the PATH. If CANBUSD names
+a program, the clone uses this program in place of its own.
 """
 
 import contextlib
@@ -27,7 +25,7 @@ PACKAGE = ("./canbusd dump", "./canbusd watch")
 
 
 class Clone:
-    """A clone of the last commit, with the actions that a newcomer takes in it."""
+    """A clone of the last commit, and the actions that a newcomer performs in it."""
 
     def __init__(self, folder):
         self.folder = str(folder)
@@ -36,13 +34,14 @@ class Clone:
             "HOME": "/nonexistent",
             "LC_ALL": "C.UTF-8",
             "PYTHONDONTWRITEBYTECODE": "1",
-            # A pytest in the clone keeps its folders here, so it removes no folders of other runs.
+            # pytest in the clone keeps its temporary folders here, so that it does not remove the folders of other
+            # runs.
             "PYTEST_DEBUG_TEMPROOT": os.path.dirname(self.folder),
         }
         subprocess.run(["git", "clone", "-q", ROOT, self.folder], check=True)
 
     def put_program(self, path):
-        """Replaces the program of the clone by this one, as if it were built from the clone's sources."""
+        """Replaces the program in the clone with this one, as if it had been built from the clone's sources."""
         shutil.copy(path, os.path.join(self.folder, "dist", "canbusd"))
         sources = subprocess.check_output([os.path.join(self.folder, "scripts", "program"), "sources"], text=True)
         with open(path, "rb") as file:
@@ -62,7 +61,7 @@ class Clone:
         ]
 
     def anchors(self, name):
-        """Returns the anchors of a document's headings, as GitHub makes them."""
+        """Returns the anchors of a document's headings, as GitHub generates them."""
         headings = re.findall(r"^#+ (.*)$", self.read(name), re.M)
         return {re.sub(r"[^\w\- ]", "", heading.lower()).replace(" ", "-") for heading in headings}
 
@@ -86,7 +85,8 @@ class Clone:
 
     @contextlib.contextmanager
     def running(self, command, says=True):
-        """A command that runs until Ctrl-C ends it, with its output. If `says`, the block starts after the first line of output."""
+        """A command that runs until Ctrl-C ends it, with its output. If `says` is true, the block starts after the
+        first line of output."""
         with tempfile.TemporaryFile("w+") as output:
             child = subprocess.Popen(
                 ["bash", "-c", command],
@@ -111,7 +111,7 @@ class Clone:
 
 
 def needs_port(number):
-    """Skips a test if the port on which its commands listen is in use."""
+    """Skips a test if the port on which its commands listen is already in use."""
     with socket.socket() as one:
         one.setsockopt(socket.SOL_SOCKET, socket.SO_REUSEADDR, 1)
         try:
@@ -136,7 +136,7 @@ def python_can(clone):
 
 
 def test_links(clone):
-    """Each link in a document leads to an existing file. If the link names a heading, the file has that heading."""
+    """Every link in a document leads to an existing file. If the link names a heading, the file has that heading."""
     documents = [
         os.path.relpath(path, clone.folder)
         for path in glob.glob(os.path.join(clone.folder, "**", "*.md"), recursive=True)
@@ -152,7 +152,7 @@ def test_links(clone):
 
 
 def test_files_that_are_named(clone):
-    """Each path of the repository that a document names exists."""
+    """Every path of the repository that a document names exists."""
     for name in [
         "README.md",
         "canbusd.1",
@@ -166,7 +166,7 @@ def test_files_that_are_named(clone):
 
 
 def test_commands_of_readme(clone, fixed_ports):
-    """Each command works, in the order of the document. Commands that run until Ctrl-C run together."""
+    """All commands work, in the order of the document. Commands that run until Ctrl-C run together."""
     needs_port(29536)
     needs_port(8029)
     server = None
@@ -189,8 +189,8 @@ def test_commands_of_readme(clone, fixed_ports):
 
 
 def test_what_readme_says_that_is_printed(clone):
-    """The first command of README prints the block after it, and needs no packages. The second block equals the script in the
-    repository."""
+    """The first command in README prints the block after it, and needs no packages. The second block equals the script
+    in the repository."""
     first, printed, second = clone.blocks("README.md")[:3]
     assert clone.shell(f"env -i PATH=/usr/bin:/bin {first[0]}") == (0, "\n".join([*printed, ""]))
     assert len(first) == 1 and os.access(os.path.join(clone.folder, second[0]), os.X_OK)
@@ -200,7 +200,7 @@ def test_what_readme_says_that_is_printed(clone):
 
 
 def test_the_test_of_readme(clone, python_can):
-    """README's test passes, and it fails without its faults."""
+    """The test in README passes, and it fails without its faults."""
     code = re.search(r"^```python\n(.*?)^```$", clone.read("README.md"), re.M | re.S)[1]
     commands = next(block for block in clone.blocks("README.md") if "test_bus_off.py" in block[-1])
     for text, passes in ((code, True), (code.replace('canbusd.bus_off("ecu")', "pass"), False)):
@@ -211,7 +211,7 @@ def test_the_test_of_readme(clone, python_can):
 
 
 def test_examples_of_the_guide(clone):
-    """Each command works on the examples of the repository, and prints the output in the guide."""
+    """Every command works on the examples in the repository, and prints the output shown in the guide."""
     found = clone.blocks("docs/GUIDE.md")
     tried = set()
     for k, block in enumerate(found):
@@ -234,7 +234,7 @@ def test_examples_of_the_guide(clone):
 
 
 def test_dialogues_of_the_guide(clone):
-    """Each command after a prompt prints the output in the guide. Blocks with a server are left out."""
+    """Every command after a prompt prints the output shown in the guide. Blocks with a server are left out."""
     with open(os.path.join(clone.folder, "my.script"), "w", encoding="ascii") as file:
         file.write("0 good\n5 local crc can2\n")
     tried = 0
@@ -243,7 +243,7 @@ def test_dialogues_of_the_guide(clone):
         if not text.startswith("$ ") or re.search("serve|logs/|pytest|watch", text):
             continue
         for command, wanted in re.findall(r"^\$ (.*)\n((?:(?!\$ ).*\n)*)", text, re.M):
-            # If no command has written this file, the reader is supposed to write it.
+            # If no command has written this file, the reader is expected to write it.
             path = os.path.join(clone.folder, command.split()[1])
             if command.startswith("cat ") and not os.path.exists(path):
                 with open(path, "w", encoding="ascii") as file:
@@ -277,7 +277,7 @@ def test_commands_of_the_package(clone, python_can, fixed_ports):
 
 
 def test_examples_of_the_manual_page(clone):
-    """The run and its audit work as shown, and mandoc or man finds no fault in the page."""
+    """The run and its audit work as shown, and mandoc or man finds no mistake in the page."""
     page = clone.read("canbusd.1")
     examples = [
         block.replace("\\e", "\\").replace("\\-", "-")
@@ -298,7 +298,8 @@ def test_examples_of_the_manual_page(clone):
 
 
 RAW = "feed 1 < open can0 >< rawmode >\n"
-# The refusals in the manual page. Each has options of the bench, and lines whose last reply on can0,can1 is this refusal.
+# The refusals in the manual page. Each has options for the bench, and lines whose last reply on can0,can1 is this
+# refusal.
 REFUSED = {
     "empty message": ("", "feed 1 < >"),
     "message too long": ("", f"feed 1 < echo{' ' * 1020}>"),
@@ -322,12 +323,12 @@ REFUSED = {
     "bad rule": ("", RAW + "feed 1 < fault next 0 good >"),
     "too many rules": ("", RAW + "feed 1 " + "< fault always good >" * 65),
 }
-# A server sends the first of these only to its 65th client. No client can provoke the second one.
+# A server sends the first of these messages only to its 65th client. No client can provoke the second one.
 NOT_TRIED = {"too many sessions", "no memory"}
 
 
 def last_reply(clone, options, lines):
-    """Returns the last line of output for these lines on can0,can1. Every attempt fails."""
+    """Returns the last line that a bench on can0,can1 writes for these lines if every attempt fails."""
     with open(os.path.join(clone.folder, "all.script"), "w", encoding="ascii") as file:
         file.write("".join(f"{number} global bit\n" for number in range(32)))
     with open(os.path.join(clone.folder, "refused.bench"), "w", encoding="ascii") as file:
@@ -338,7 +339,8 @@ def last_reply(clone, options, lines):
 
 
 def test_refusals_of_the_manual_page(clone):
-    """The page lists exactly the refusals that clients can provoke, and the right number of filters in a message."""
+    """The page lists exactly the refusals that clients can provoke, and the right maximum number of filters in a
+    message."""
     page = clone.read("canbusd.1")
     listed = re.findall(r"^\.TP\n\\fB(.*)\\fR$", page[page.index(".SH REFUSALS") : page.index(".SH LIMITS")], re.M)
     assert sorted(listed) == sorted(REFUSED.keys() | NOT_TRIED), f"listed are {listed}"
@@ -353,7 +355,7 @@ def test_refusals_of_the_manual_page(clone):
 
 
 def test_targets_without_the_toolchain(clone):
-    """make install and make uninstall work even if PREFIX has a space. The other targets report the missing tools."""
+    """make install and make uninstall work even if PREFIX contains a space. The other targets report the missing tools."""
     status, written = clone.shell(
         'make install PREFIX="$PWD/a place" && cd / && "$OLDPWD/a place/bin/canbusd" --version && '
         '"$OLDPWD/a place/bin/canbusd" report --help && "$OLDPWD/a place/bin/candump2bench" --help'
@@ -373,7 +375,7 @@ def test_targets_without_the_toolchain(clone):
 
 
 def test_a_changed_source(clone):
-    """./canbusd names the changed file. The command that it prints restores the stored program."""
+    """./canbusd names the changed file. The command that it prints restores the committed program."""
     source = "crates/can_confine/src/counters.rt"
     with open(os.path.join(clone.folder, source), "a", encoding="utf-8") as file:
         file.write("// a change\n")

@@ -1,4 +1,5 @@
-"""scripts/edits gives each edit the right verdict. Only an open goal of the edited function counts as a refusal."""
+"""scripts/edits reports the right verdict on each edit. Only an open goal of the edited function counts as a refusal.
+"""
 
 import os
 import shutil
@@ -75,7 +76,7 @@ EDITS = {
 
 
 def make_repository(top):
-    """Makes a repository with the crate and the scripts, and returns the path."""
+    """Creates a repository with the crate and the scripts, and returns its path."""
     if shutil.which("rt") is None:
         pytest.skip("there is no rt: the Rattle kit is not public")
     for folder in ("scripts", "crates/toy/src", "crates/toy/wrong"):
@@ -120,7 +121,7 @@ def test_what_is_not_refused_is_a_failure(tried):
 
 
 def test_a_refusal_is_kept(tried):
-    """The next run reuses a refusal until a text of the crate changes."""
+    """The next run reuses a refusal until a file of the crate changes."""
     _, top = tried
     words = [top / "scripts/edits", "toy/refused"]
     environment = {**os.environ, "CANBUSD_KEPT": str(top / "kept")}
@@ -140,7 +141,7 @@ def test_a_crate_without_edits_is_named(tried):
 
 @pytest.fixture
 def upper(tmp_path):
-    """A repository with a second crate that depends on the first. The second one is not built, and has one edit."""
+    """A repository with a second crate that depends on the first. The second crate is not built, and has one edit."""
     top = make_repository(tmp_path / "repository")
     (top / "crates.txt").write_text("toy:\nupper: toy\n", encoding="utf-8")
     for folder in ("src", "wrong"):

@@ -10,7 +10,7 @@ from serving import ROOT
 # The maximum average of words in a sentence, for each document.
 WORDS = {"README.md": 20, "docs/GUIDE.md": 20, "docs/PYTHON.md": 20, "docs/PROVED.md": 24, "docs/SECURITY.md": 20}
 WORDS.update({"docs/RECORD.md": 20, "CONTRIBUTING.md": 20, "canbusd.1": 20, "canbusd-run.1": 20})
-# The same maximum for the documents for developers.
+# The same maximum for the documents written for developers.
 OTHERS = {"docs/ARCHITECTURE.md": 20, "docs/DECISIONS.md": 20, "CHANGELOG.md": 20, "docs/LIBRARIES-CHANGELOG.md": 20}
 LINES = 3400
 # Matches a sentence, or a part of one, whose subject is a clause.
@@ -23,8 +23,8 @@ def read(name):
 
 
 def paragraphs(text):
-    """Returns the paragraphs and items of a document in Markdown or of a manual page, without tables, blocks of code
-    and headings."""
+    """Returns the paragraphs and list items of a Markdown document or a manual page, without tables, blocks of code and
+    headings."""
     if text.startswith(".TH"):
         text = re.sub(r"(?s:\.nf\n.*?\.fi\n)|^\.\\\W.*\n", "", text, flags=re.M)
         text = re.sub(r"^\.TP\n.*\n|^\.(?:TH|PP|IP|SH|br).*\n", "\n\n", text, flags=re.M)
@@ -37,14 +37,15 @@ def paragraphs(text):
 
 
 def sentences(text):
-    """Returns the sentences of a document; a link counts as its text."""
+    """Returns the sentences in a document. A link counts as its link text."""
     text = re.sub(r"!?\[([^]]*)\]\([^)]*\)", r"\1", text).replace("**", "").replace(" ..", "")
     found = [one for part in paragraphs(text) for one in re.split(r"(?<=[.?!])[)\"]? (?=[^a-z])|: (?=`)", part)]
     return [one for one in found if len(one.split()) > 1]
 
 
 def test_counting():
-    """The paragraph has two sentences, and the item has one. Headings, code, table rows and the addresses of pictures don't count.
+    """The paragraph has two sentences, and the list item has one. Headings, code, table rows and the addresses of
+    images don't count.
     """
     text = "# What is it\n\n[One](x.md) two. Three `a b.c` four:\n\n    code\n\n- What it does, is that.\n\n| a | b |\n"
     assert sentences(text) == ["One two.", "Three `a b.c` four:", "What it does, is that."]

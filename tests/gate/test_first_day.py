@@ -1,8 +1,6 @@
-"""From the first line of README to a passing test: first_day.sh in this folder runs in a clone, and by each route on a fresh
-minimal Debian 12 and 13.
-
-BASES names a folder with a debootstrap of bookworm and of trixie (debootstrap --variant=minbase). Without BASES, the tests make
-them. The tests need a network.
+"""From the first line of README to a passing test: first_day.sh in this folder runs in a clone, and takes each route on
+a fresh minimal Debian 12 and 13. BASES names a folder with a debootstrap of bookworm and of trixie (debootstrap
+--variant=minbase). Without BASES, the tests create them. The tests need a network.
 """
 
 import os
@@ -29,8 +27,8 @@ def base(request, tmp_path_factory):
 
 
 def test_first_day_in_a_clone(tmp_path, fixed_ports):
-    """The commands and the test of README work with the installed packages, and so do the page and the server commands of the
-    guide."""
+    """With the installed packages, the commands and the test in README work, and so do the page and the server commands
+    in the guide."""
     needs_port(29536)
     clone = Clone(tmp_path / "clone")
     clone.put_program(program())

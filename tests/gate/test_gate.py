@@ -1,5 +1,5 @@
-"""scripts/test: the counts that it prints, and the order of the program's tests and the proofs. Stand-ins for the parts note their
-calls."""
+"""scripts/test: the counts that it prints, and the order in which it runs the program's tests and the proofs. Stand-ins
+for the parts record how they are called."""
 
 import os
 import shutil
@@ -9,7 +9,7 @@ import pytest
 
 from serving import ROOT
 
-# Each stand-in notes that it was called, and prints the last line of its part.
+# Each stand-in records that it was called, and prints the last line that its part would print.
 STAND_INS = {
     "bin/nproc": "echo ${PROCESSORS:-4}",
     "bin/rt": """
@@ -64,7 +64,7 @@ def gate(tmp_path):
 
 
 def test_early(gate):
-    """On four processors, the tests of the program run once, during the proofs, with the program in dist/."""
+    """On four processors, the tests of the program run once, while the proofs run, with the program in dist/."""
     status, lines, calls = gate()
     assert (status, lines[-1]) == (0, "44 passed, 0 failed, 6 skipped"), lines
     assert calls == [ON_DIST, "mark", "outside quiet crates/canbusd/out/canbusd"]
@@ -80,7 +80,7 @@ def test_early_ones_fail(gate, early):
 
 @pytest.mark.parametrize("env", [{"PROCESSORS": "3"}, {"DIST": "3", "COMPARED": "3", "LIBRARY": "3"}])
 def test_none_early(gate, env, tmp_path):
-    """With fewer than four processors, or if dist/ has another program, the tests run after the proofs."""
+    """With fewer than four processors, or if dist/ holds another program, the tests run after the proofs."""
     (tmp_path / "wait").unlink()
     status, lines, calls = gate(**env)
     skipped = 8 if "COMPARED" in env else 6
@@ -97,13 +97,13 @@ def test_none_early(gate, env, tmp_path):
     ],
 )
 def test_one_part(gate, part, last, calls):
-    """Each part can run by itself: the Rattle part, or the part that needs no kit."""
+    """Each part can run by itself: the Rattle part, or the part that does not need the toolchain."""
     assert gate(part) == (0, [last], calls)
 
 
 @pytest.mark.parametrize("env", [{"PROVED": "6 passed, 1 failed"}, {"COMPARED": "1"}, {"LIBRARY": "1"}])
 def test_proofs_fail(gate, env):
-    """If a proof fails, the whole command fails, and the program is not marked as the one of these sources."""
+    """If a proof fails, the whole command fails, and the program is not marked as built from these sources."""
     status, lines, calls = gate(**env)
     assert (status, lines[-1]) == (1, "43 passed, 1 failed, 6 skipped"), lines
     assert "mark" not in calls

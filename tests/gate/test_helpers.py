@@ -1,4 +1,5 @@
-"""The helpers of the tests: runs without a program, waits with a timeout, threads at rest, and tests in several processes."""
+"""The helpers for the tests: runs without a program, waits with a timeout, sleeping threads, and tests in several
+processes."""
 
 import os
 import shutil
@@ -29,7 +30,8 @@ def run_in(folder, **more):
 
 
 def test_no_program_of_these_sources(tmp_path):
-    """Without a program of these sources, no test runs, nothing is built, and a message shows how to build it."""
+    """If there is no program built from these sources, no test runs, nothing is built, and a message shows how to build
+    it."""
     for name in ("tests", "scripts", "python"):
         shutil.copytree(os.path.join(ROOT, name), tmp_path / name)
     shutil.copy(os.path.join(ROOT, "pytest.ini"), tmp_path)
@@ -57,7 +59,7 @@ def test_no_program_of_that_name():
     ],
 )
 def test_no_variable_has_to_be_set(folder, tests):
-    """Tests run without any environment variables, from whichever folder pytest is called."""
+    """Tests run without any environment variables, from any folder in which pytest is called."""
     variables = ("CANBUSD", "CANBUSD_RUN", "PYTHONPATH", "PYTEST_ADDOPTS")
     done = subprocess.run(
         [sys.executable, "-m", "pytest", "-q", "-p", "no:cacheprovider", *tests],
@@ -72,7 +74,7 @@ def test_no_variable_has_to_be_set(folder, tests):
 
 
 def test_turns():
-    """turns() continues until the loop is left. When the time is over, it fails."""
+    """turns() continues until the loop is left. When the time has run out, it fails."""
     begin = time.monotonic()
     for count, _ in enumerate(turns("three")):
         if count == 3:
@@ -101,7 +103,8 @@ def test_join():
 
 
 def test_all_sleep():
-    """A process that waits for input counts as asleep, and so does an ended one. A process that is counting does not."""
+    """A process that waits for input counts as asleep, and so does a process that has ended. A process that is
+    computing does not."""
     waiting = subprocess.Popen(["cat"], stdin=subprocess.PIPE, stdout=subprocess.DEVNULL)
     counts = "print('counting', flush=True)\nwhile True: pass"
     counting = subprocess.Popen([sys.executable, "-c", counts], stdout=subprocess.PIPE, text=True)
@@ -132,7 +135,7 @@ class Process:
 
 @pytest.mark.parametrize("sizes", [[1], [3, 1, 1], [100, 1, 60], [1] * 50, [16], [500, 2, 500]])
 def test_few_at_a_time(sizes):
-    """Each test goes to one process, with a limit of tests from one file at a time. Each process is ended."""
+    """Each test is given to one process, with a limit on tests from one file at a time. Every process is shut down."""
     pytest.importorskip("xdist", reason="no pytest-xdist (python3-pytest-xdist)")
     values = {"dist": "load", "tx": ["popen"] * 3}
     scheduler = pytest_xdist_make_scheduler(types.SimpleNamespace(getvalue=values.get), None)
@@ -145,7 +148,7 @@ def test_few_at_a_time(sizes):
     scheduler.schedule()
     for _ in range(len(tests)):
         for process, places in scheduler.node2pending.items():
-            # A worker needs a next test before it runs its last one, unless it is shutting down.
+            # A worker needs to have its next test before it runs the current one, unless it is shutting down.
             assert len(places) > 1 or process.shutting_down
             if places:
                 scheduler.mark_test_complete(process, places[0], 1)

@@ -35,8 +35,8 @@ def test_fails_in_the_end(broken):
 def test_is_skipped():
     pytest.skip("it rains")
 """
-# A test file with a test that passes at once, one that passes at the third try, and one that never passes. Each test notes its
-# tries.
+# A test file with a test that passes at once, one that passes at the third try, and one that never passes. Each test
+# records its tries.
 TRIED = """
 import pytest
 
@@ -91,7 +91,7 @@ def test_results(outside, tmp_path):
 
 @pytest.mark.parametrize("text", ["import nothing_of_this_name\n", "import os\nos._exit(0)\n", "x = (\n"])
 def test_a_run_that_breaks(outside, tmp_path, text):
-    """A run that ends before it has counted its tests has failed."""
+    """A run that stops before it has counted its tests has failed."""
     results, _ = suite(outside, tmp_path, text).run()
     assert results and {*results.values()} == {"failed"}
 
@@ -106,7 +106,7 @@ def test_nothing_runs(outside, tmp_path, monkeypatch):
 
 
 def test_without_what_may_be_missing(outside, tmp_path, monkeypatch):
-    """Without pytest-xdist, tests run one after the other. If a tool is missing, its part is skipped."""
+    """Without pytest-xdist, tests run one after another. If a tool is missing, its part is skipped."""
     monkeypatch.setattr(outside, "has_module", lambda name: False)
     monkeypatch.setitem(outside.ROOMS, "bench", ("test_some.py",))
     text = "def test_one(request):\n    assert not hasattr(request.config, 'workerinput')\n"
@@ -149,7 +149,7 @@ def test_what_fails_is_tried_again(outside, tmp_path, monkeypatch, capsys):
 
 
 def test_skips(outside, monkeypatch, capsys):
-    """Each skip is listed. If all skips have to be allowed, a skip without a line in the list counts as a failure."""
+    """Every skip is listed. If every skip has to be allowed, a skip without a line in the list counts as a failure."""
     monkeypatch.setattr(outside, "may_be_skipped", lambda: ["tests/bench/test_a.py: it rains"])
     results = {
         "tests/bench/test_a.py::test_1": "passed",
@@ -186,7 +186,8 @@ def test_the_part_of_a_test(outside, name, part):
 
 
 def test_both_parts_of_a_folder(outside):
-    """Both parts of a folder are one run. If only one part is chosen, the tests of the other part are left out."""
+    """If both parts of a folder are chosen, they form one run. If only one part is chosen, the tests of the other part
+    are left out."""
     both, each = outside.groups_of(["canrun", "sanitizers"]), outside.groups_of(["bench", "sanitizers"])
     assert (both, each) == ([["canrun", "sanitizers"]], [["bench"], ["sanitizers"]])
     marks = [outside.tests_of(parts, "quiet")[1] for parts in (*both, *each)]
@@ -200,7 +201,7 @@ def test_each_line_that_allows_a_skip_names_a_test_file(outside):
 
 
 def test_each_test_is_of_one_part(outside):
-    """Each folder with tests belongs to a part, and each folder of a part exists."""
+    """Every folder with tests belongs to a part, and every folder of a part exists."""
     places = {path for paths in outside.ROOMS.values() for path in paths}
     assert all(os.path.isdir(os.path.join(ROOT, place)) for place in places)
     with_tests = {

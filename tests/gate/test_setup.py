@@ -1,5 +1,5 @@
-"""scripts/setup: the packages that it installs, and its message if it lacks permission. Stand-ins for Debian's commands note their
-calls."""
+"""scripts/setup: the packages that it installs, and its message if it lacks permission. Stand-ins for Debian's commands
+record how they are called."""
 
 import os
 import shutil

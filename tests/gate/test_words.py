@@ -1,4 +1,4 @@
-"""The lists in words/: the texts that are generated from them are up to date, and agree with the help of the programs."""
+"""The lists in words/: the files that are generated from them are up to date, and agree with the programs' help."""
 
 import glob
 import importlib.machinery
@@ -18,7 +18,7 @@ PAGES = ("canbusd.1", "canbusd-run.1")
 
 
 def options_in(page):
-    """Returns the lines of the options in a help text, by option and value."""
+    """Returns the lines about options in a help page, by option and value."""
     found = re.findall(r"^ +(?:-h, )?(--[a-z-]+(?: \S+)?)  +(\S.*(?:\n {20,}\S.*)*)", page, re.M)
     return {re.sub("[<>]", "", form): " ".join(line.split()) for form, line in found}
 
@@ -35,8 +35,7 @@ def test_what_is_written():
 
 
 def test_a_version_is_written_once(monkeypatch):
-    """A new version in words/version appears in the program, both packages, both manual pages and the name of the metadata folder.
-    """
+    """A new version in words/version appears in the program, both packages, both manual pages and the name of the metadata folder."""
     monkeypatch.setattr(words, "version_and_day", lambda: ("9.8.7", "2027-01-02"))
     places = [*words.VERSIONS, words.metadata()]
     assert [name for name in places if "9.8.7" not in words.written(name)] == []
@@ -59,7 +58,7 @@ def test_releases():
 
 @pytest.mark.parametrize("command", ["bench", "serve", "audit", "bits"])
 def test_options_of_the_program(program, command):
-    """The help of a command has each of its options, with value, description and default."""
+    """The help of a command lists every option of the command, with value, description and default."""
     page = subprocess.run([program, "help", command], capture_output=True, text=True, check=True).stdout
     shown = options_in(page[page.index("Options:") : page.index("\n\n", page.index("Options:"))])
     assert shown == {
@@ -71,7 +70,7 @@ def test_options_of_the_program(program, command):
 NUMBERS = [(option, command) for option in words.OF_CANBUSD if option.range[2] for command in option.commands]
 # The other options that an option requires.
 NEEDED = {"dbitrate": ["--bitrate", "5000"], "flush": ["--record", "none"]}
-# The arguments with which each command ends at once.
+# The arguments with which each command exits at once.
 REST = {
     "bench": ["can0"],
     "serve": ["--listen", "./none/socket", "can0"],
@@ -82,7 +81,8 @@ REST = {
 
 @pytest.mark.parametrize("option, command", NUMBERS, ids=[f"{command}-{option.name}" for option, command in NUMBERS])
 def test_ranges(program, option, command):
-    """The program accepts the smallest and the largest number of an option. It refuses numbers outside, and prints the range."""
+    """The program accepts the smallest and the largest value of an option. It refuses values outside this range, and
+    prints the range."""
     least, most, _ = option.range
     for number, is_taken in ((least - 1, False), (least, True), (most, True), (most + 1, False)):
         if number >= 0:
@@ -92,7 +92,7 @@ def test_ranges(program, option, command):
 
 
 def test_limits():
-    """Each limit equals its constant in crates/."""
+    """Every limit equals its constant in crates/."""
     for limit in words.LIMITS:
         crate, constant = limit.field(2).split()
         sources = "".join(words.read(path) for path in glob.glob(f"crates/{crate}/src/*.rt", root_dir=ROOT))
@@ -100,8 +100,8 @@ def test_limits():
         assert [int(number) for number in found] == [int(limit.field(1))], limit.form
 
 
-# The words of each list, and the source in crates/ that has them. Words that the source lacks are in NOT_LISTED, such as the modes
-# of socketcand and refusals that can't happen.
+# The words of each list, and the source in crates/ that contains them. Words that are not in the source are in
+# NOT_LISTED, such as the modes of socketcand and refusals that can't happen.
 OF_CRATES = {
     "messages": ({word.name for word in words.MESSAGES}, "can_proto/src/verb.rt", r'word, b"(\w+)"'),
     "refusals": ({word.form for word in words.REFUSALS}, "can_proto/src/answer.rt", r'Cause::\w+ => b"([a-z ]+)"'),
@@ -118,13 +118,13 @@ NOT_LISTED |= {"bad capacity", "too many sockets", "no socket", "too many passes
 
 @pytest.mark.parametrize("name", OF_CRATES)
 def test_words_of_crates(name):
-    """Each list has the same words as the source that reads or writes them."""
+    """Every list has the same words as the source that reads or writes them."""
     listed, path, pattern = OF_CRATES[name]
     assert listed == set(re.findall(pattern, words.read(f"crates/{path}"))) - NOT_LISTED
 
 
 def test_options_of_canbusd_run():
-    """The help of canbusd-run has each of its options."""
+    """The help of canbusd-run lists every option of canbusd-run."""
     page = "\n".join(re.findall(r'^    "(.*)\\n"', words.read("canrun/command/main.c"), re.M))
     shown = options_in(page.replace('" ADDRESS_DEFAULT "', "127.0.0.1:29536"))
     # --virtual is left out, because it has its own paragraph.

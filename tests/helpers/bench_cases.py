@@ -1,7 +1,8 @@
 """The cases of tests/bench, which describe benches as text.
 
-Each file has several cases. A line with `$` has the arguments of the command, `@` a line of the script that they name, `<` a line
-of input, and `>` a line of output. A line of input after `<~` has no LF. A line that begins with `#` is a comment.
+Each file contains several cases. A line with `$` contains the arguments of the command, `@` a line of the script that
+the arguments name, `<` a line of input, and `>` a line of output. A line of input after `<~` has no LF. A line that
+begins with `#` is a comment.
 """
 
 import glob
@@ -13,7 +14,7 @@ from serving import ROOT
 
 
 class Case:
-    """The arguments of a command, with its script, its input and its expected output."""
+    """The arguments of a command, the script that they name, the input and the expected output."""
 
     def __init__(self, words):
         self.words, self.script, self.input, self.output = words.split(" "), "", "", ""

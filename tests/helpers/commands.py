@@ -12,7 +12,7 @@ from serving import ROOT, program
 
 BROWSER = next(filter(None, map(shutil.which, ("chromium", "chromium-browser", "google-chrome"))), None)
 
-# Input that starts two sessions in raw mode, one on each of the first two interfaces, and the output for it.
+# Input that starts two sessions in raw mode, one on each of the first two interfaces, and the output for that input.
 TWO_SESSIONS = """session 1
 session 2
 feed 1 < open can0 >< rawmode >
@@ -34,12 +34,13 @@ def call(*words, **more):
 
 
 def run_line(line, text="", **more):
-    """Runs the program with the arguments in a line and this input. Returns the status, the output and the errors."""
+    """Runs the program with these arguments (a string that is split as a shell would split it) and this input. Returns
+    the status, the output and the errors."""
     return call(program(), *line.split(), stdin=None, input=text, **more)
 
 
 def run_bytes(line, text):
-    """Does the same as run_line, but each read of the input gives only one byte."""
+    """Does the same as run_line, but each read of the input returns only one byte."""
     ours, theirs = socket.socketpair(socket.AF_UNIX, socket.SOCK_SEQPACKET)
     words = [program(), *line.split()]
     with subprocess.Popen(words, stdin=theirs, stdout=subprocess.PIPE, stderr=subprocess.PIPE, text=True) as running:
@@ -52,7 +53,7 @@ def run_bytes(line, text):
 
 
 def send_bytes(stream, text):
-    """Sends each byte in a packet of its own, until the reader closes the stream."""
+    """Sends each byte in a separate packet, until the reader closes the stream."""
     with stream, contextlib.suppress(BrokenPipeError, ConnectionResetError):
         for place in range(len(text)):
             stream.send(text[place : place + 1])
@@ -65,7 +66,7 @@ def is_clean(fault):
 
 
 def example(name, folder):
-    """Makes the record of an example of the guide, and returns its path."""
+    """Creates the record of an example in the guide, and returns its path."""
     bench, record = os.path.join(ROOT, "examples", f"{name}.bench"), os.path.join(folder, f"{name}.rec")
     with open(bench, encoding="utf-8") as text:
         *options, bus = re.search(r"\./canbusd bench (.+) < ", text.read())[1].split()

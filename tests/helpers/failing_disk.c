@@ -1,10 +1,9 @@
-/* Lets disk calls of a program fail (LD_PRELOAD), as test_long_runs.py needs it.
- *
- * DISK names a file that the test and the program share. It has two 64-bit numbers for each kind of call: how often the
- * program has made the call, and how often it may. Further calls fail with EIO. The kinds of calls are writing to a
- * plain file, waiting until the disk has the data, and truncating a file. Only files that are opened for appending
- * count, so standard error may be a file that does not count. If there is a number DISK_MILLIS, each write to such a
- * file takes that many milliseconds longer. */
+/* Makes disk calls of a program fail (LD_PRELOAD), as test_long_runs.py needs it. DISK names a file that the test and
+ * the program share. It contains two 64-bit integers for each kind of call: how often the program has made the call,
+ * and how often the call may succeed. Further calls fail with EIO. The kinds of calls are writing to a plain file,
+ * waiting until the data is on the disk, and truncating a file. Only files that are opened for appending count, so
+ * standard error may be a file that does not count. If DISK_MILLIS is set, each write to such a file takes that many
+ * milliseconds longer. */
 #define _GNU_SOURCE
 #include <errno.h>
 #include <fcntl.h>

@@ -1,14 +1,14 @@
-"""Decides how pytest-xdist hands out tests. By default it gives a process hundreds in a row, so a process with long tests ends
-last."""
+"""Decides how pytest-xdist distributes tests. By default it assigns hundreds in a row to a process, so a process with
+long tests finishes last."""
 
 import itertools
 
 import pytest
 
-#: The largest number of tests that a process gets at once. They are from one file, so that few processes have to prepare what its
-#: tests share.
+#: The largest number of tests that a process gets at once. They are from one file, so that few processes have to
+#: prepare what its tests share.
 MOST = 40
-#: A process with fewer tests than this gets more, because it begins a test only when it knows the next one.
+#: A process with fewer tests than this gets more, because it begins a test only when it has its next one.
 FEWEST = 3
 
 

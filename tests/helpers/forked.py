@@ -22,7 +22,7 @@ LONGEST = 60
 
 
 def forked(*words, env=None, cwd=None, stdin=subprocess.DEVNULL, preexec_fn=None, longest=LONGEST):
-    """Runs `canbusd` with these words, and returns its status, its output and its errors."""
+    """Runs `canbusd` with these arguments, and returns its status, its output and its errors."""
     if words and words[0] in {*COMMANDS} - {*PROGRAM}:
         importlib.import_module(f"canbusd.commands.{words[0]}")
     (output, written), (errors, said) = os.pipe(), os.pipe()
@@ -48,7 +48,8 @@ def forked(*words, env=None, cwd=None, stdin=subprocess.DEVNULL, preexec_fn=None
 
 
 def read_all(*pipes):
-    """Reads these pipes until all their writers have closed them, then closes the pipes. Returns the texts."""
+    """Reads these pipes until all their writers have closed them, then closes the pipes. Returns the strings that were
+    read."""
     found = {pipe: io.BytesIO() for pipe in pipes}
     with selectors.DefaultSelector() as ready:
         for pipe in pipes:
@@ -64,10 +65,10 @@ def read_all(*pipes):
 
 
 def become(begin, words):
-    """Runs a command with these words in this process, and then exits."""
+    """Runs a command with these arguments in this process, and then exits."""
     status = 1
     try:
-        # Garbage collection is off, because the fork still uses objects that count as garbage here.
+        # Garbage collection is off, because the fork still uses objects that appear to be garbage here.
         gc.disable()
         begin()
         main(words)
@@ -98,7 +99,7 @@ def take_environment(env):
 
 
 def status_of(end):
-    """Returns the exit status for this SystemExit. Its text, if any, is written to standard error."""
+    """Returns the exit status for this SystemExit. Its message, if any, is written to standard error."""
     if isinstance(end.code, str):
         print(end.code, file=sys.stderr)
         return 1

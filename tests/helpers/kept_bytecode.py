@@ -1,5 +1,5 @@
-"""Sets the bytecode folder of a pytest process: the folder in TESTS_BYTECODE, which other processes read, or none. Programs that
-the tests start do not use this folder."""
+"""Sets the bytecode folder of a pytest process. It is the folder in TESTS_BYTECODE, from which other processes read
+too, or none. Programs that the tests start do not use this folder."""
 
 import os
 import sys

@@ -1,5 +1,5 @@
-/* Kills a program just before it renames a file (LD_PRELOAD), as test_run_faults.py needs it. RENAME is the number of
- * that rename, counted from 1. */
+/* Kills a program just before it renames a file (LD_PRELOAD), as test_run_faults.py needs it. RENAME says which rename
+ * that is, counted from 1. */
 #include <signal.h>
 #include <stdio.h>
 #include <stdlib.h>

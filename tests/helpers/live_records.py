@@ -1,4 +1,4 @@
-"""Records that a server writes during its run, and the files that its folder has at that time."""
+"""Records that a server writes while it runs, and the files that are in its folder at that time."""
 
 import os
 import re
@@ -7,13 +7,13 @@ from commands import call
 from record_events import audit
 from serving import program
 
-# The first two lines of a record that is written during its run.
+# The first two lines of a record that a server writes while it runs.
 FRONT = "canbus record 4\nbus 2 always 0000 10 4294967294 0\n"
 
 
 def cut_audit(path, is_replayed=True):
-    """Returns the number of entries in a record, and whether the record was cut off. The audit gives both, and the model confirms
-    them."""
+    """Returns the number of entries in a record, and whether the record was cut off. The audit reports both, and the
+    model confirms them."""
     status, said, errors = call(program(), "audit", "--cut", path)
     assert status == 0, f"{said}{errors}"
     if is_replayed:
@@ -24,7 +24,8 @@ def cut_audit(path, is_replayed=True):
 
 
 def names_in(folder):
-    """Returns the names of the files in a folder, without the server's messages. A faults file counts only if it has content."""
+    """Returns the names of the files in a folder, without the server's messages. A faults file counts only if it is not
+    empty."""
     names = set(os.listdir(folder)) - {"stderr"}
     growing = {name for name in names if name.endswith(".rec.faults.new")}
     return sorted(names - {name for name in growing if not os.lstat(os.path.join(folder, name)).st_size})

@@ -1,4 +1,4 @@
-"""Folders that take long to make: each is made once in a run of pytest, even if several processes run the tests."""
+"""Folders that take long to create: each is created once per pytest run, even if several processes run the tests."""
 
 import fcntl
 import os
@@ -6,11 +6,11 @@ import shutil
 
 
 def made_once(request, name, make):
-    """Returns the folder with this name. The first test that asks for the folder fills it by `make`, and later tests do not change
-    it."""
+    """Returns the folder with this name. The first test that requests the folder fills it with `make`. Later tests must
+    not change it."""
     shared = request.getfixturevalue("tmp_path_factory").getbasetemp()
     if hasattr(request.config, "workerinput"):
-        # With pytest-xdist, each process has its own folder within the folder of the run.
+        # With pytest-xdist, each process has a separate folder within the folder of the pytest run.
         shared = shared.parent
     folder = shared / f"made-{name}"
     with open(f"{folder}.lock", "w", encoding="ascii") as lock:

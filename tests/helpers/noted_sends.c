@@ -1,5 +1,5 @@
-/* Notes the number of bytes in each send of a program (LD_PRELOAD), as test_serve.py needs it. Each number is a line at
- * the end of the file that SENDS names. */
+/* Records the number of bytes in each send of a program (LD_PRELOAD), as test_serve.py needs it. Each number is
+ * appended as a line to the file that SENDS names. */
 #include <fcntl.h>
 #include <stdio.h>
 #include <stdlib.h>

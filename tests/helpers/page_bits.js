@@ -1,6 +1,6 @@
-// Prints the bits of frames as the page of a run shows them: `node page_bits.js BITS.js < FRAMES`. A line of input has
-// a frame, and then the frames that compete with it. The output for each line is that of `canbusd bits`, without the
-// number of bits.
+// Prints the bits of frames as the page of a run shows them: `node page_bits.js BITS.js < FRAMES`. Each line of input
+// contains a frame, followed by the frames that compete with it. The output for each line is the output of `canbusd
+// bits`, without the number of bits.
 const fs = require("fs"), vm = require("vm");
 
 vm.runInThisContext(`${fs.readFileSync(process.argv[2], "utf8")}\nObject.assign(globalThis, { wireBits, silentAt });`);

@@ -1,9 +1,9 @@
 """Random runs of the bench.
 
-Each case has a random command line, a random input and in most cases a script of faults. Buses have 1 to 16 interfaces, and
-sessions open them. The input has every command of the protocol with good and bad words, messages that are cut or too long, and
-attempts under every verdict. Some cases have FD frames. There are few identifiers, so that frames meet. A few cases have an error
-in a line, the script or the options.
+Each case has a random command line, a random input and usually a fault script. Buses have 1 to 16 interfaces, and
+sessions open them. The input contains every command of the protocol with valid and invalid words, messages that are cut
+or too long, and attempts with every verdict. Some cases contain FD frames. There are few identifiers, so that frames
+compete. A few cases have an error in a line, the script or the options.
 """
 
 import itertools
@@ -36,7 +36,7 @@ FAULTY = [
     "sendfd 123 65", "sendfd 123 1 g", "fdframes", "fdframes 2", "fdframes 1 1", "fdframe", "rawmode 1", "open",
     "open can0 can1", "bcmmode", "bcmmode 1 2", "isotpmode", "controlmode", "Send 123 0", "stat",
 ]  # fmt: skip
-# Further messages. The programs that are compared with canbusd may be too old for them.
+# Further messages. Older programs that are compared with canbusd may not support them.
 NEWER = [
     "sendfdx", "sendfdx 1", "sendfdx 4 123 0", "sendfdx 01 123 0", "sendfdx 1 123 9", "sendfdx x 123 0", "fdframex",
     "load 1",

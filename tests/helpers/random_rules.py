@@ -1,7 +1,6 @@
-"""Random runs of the bench with fault rules: in the script, in lines `fault RULE`, and in messages of a session.
-
-Session 1 has opened the first interface and only gives rules. The other sessions send. So a line of output that begins with `1 <`
-answers a message about rules, and a line that begins with `tried` or `idle` is about an attempt.
+"""Random runs of the bench with fault rules: in the script, in lines `fault RULE`, and in messages from a session.
+Session 1 has opened the first interface and only gives rules. The other sessions send. So a line of output that begins
+with `1 <` answers a message about rules, and a line that begins with `tried` or `idle` is about an attempt.
 """
 
 import os
@@ -9,7 +8,7 @@ import random
 
 SCRIPT, RECORD = "faults.script", "run.rec"
 NAMES = ["can0", "can1", "next", "id", "skip", "x.y_z", "longest-name.15", "0", "from", "good"]
-# Data and remote frames, of 11 and 29 bits, and FD frames.
+# Data and remote frames with identifiers of 11 and 29 bits, and FD frames.
 FRAMES = [
     "send 123 0", "send 124 1 11", "send 7FF 0", "sendrtr 123 0", "send 00000123 0", "sendrtr 00000123 2",
     "send 1FFFFFFF 1 22", "sendfd 123 0", "sendfd 00000124 1 33", "sendfdx 1 123 0",
@@ -29,9 +28,8 @@ WORDS = [
 
 
 class Case:
-    """A command line without the program, the script, the operations of the run, and the names of the interfaces.
-
-    An operation is a pair of a kind and a text. Its kind is `attempt`, `send`, `line` with a rule, or `message`.
+    """A command line without the program, the script, the operations of the run, and the names of the interfaces. An
+    operation is a pair of a kind and a string. Its kind is `attempt`, `send`, `line` with a rule, or `message`.
     """
 
     def __init__(self, names, words, script, operations):
@@ -72,7 +70,7 @@ class RuleMaker:
         return f"local {self.random.choice(['crc', 'stuff', 'form'])} {self.some(names)}"
 
     def rule(self, names):
-        """Returns a rule on a bus with these names."""
+        """Returns a random rule for a bus with interfaces of these names."""
         count = self.random.choice([1, 1, 2, 3, 8, 32, 99999999])
         words = ["always"] if self.chance(0.2) else ["next", f"{count:0{self.random.choice([1, 1, 8])}}"]
         words += ["from", self.some(names)] if self.chance(0.4) else []
@@ -100,7 +98,7 @@ class RuleMaker:
         return " ".join(words)
 
     def spaced(self, text):
-        """Returns a message with these words. Some messages have other white space between the words."""
+        """Returns a message with these words. Some messages have unusual white space between the words."""
         if self.chance(0.8):
             return f" {text} "
         blanks = [" ", "  ", "\t", " \t "]

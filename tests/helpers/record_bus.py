@@ -1,9 +1,9 @@
-"""The parts of a bus, by the rules of docs/DEFINITIONS.md: frames, sockets, interfaces, and queued frames."""
+"""The parts of a bus, following the rules in docs/DEFINITIONS.md: frames, sockets, interfaces, and queued frames."""
 
 from collections import deque
 from typing import Optional
 
-# Bits of an identifier word (linux/can.h), for a 29-bit identifier, a remote frame and an inverted filter.
+# The bits of an identifier word (linux/can.h) that mark a 29-bit identifier, a remote frame and an inverted filter.
 EXTENDED, REMOTE, INVERTED = 1 << 31, 1 << 30, 1 << 29
 #: The lowest error counts of an interface that is bus off, error passive, or error warning.
 OFF, PASSIVE, WARNING = 256, 128, 96
@@ -15,7 +15,8 @@ def severity(count: int) -> int:
 
 
 class Frame:
-    """A data, remote or FD frame in the notation of records, with its identifier word and the bits that arbitration compares."""
+    """A data, remote or FD frame in the notation used in records, with its identifier word and the bits that
+    arbitration compares."""
 
     __slots__ = ("text", "is_fd", "word", "bits")
 
@@ -24,8 +25,8 @@ class Frame:
         number, is_extended, is_remote = int(identifier, 16), len(identifier) == 8, payload.startswith("R")
         self.text, self.is_fd = text, payload.startswith("#")
         self.word = number + is_extended * EXTENDED + is_remote * REMOTE
-        # The bits begin with the identifier. Its first 11 bits are followed by RTR and IDE, or by SRR, IDE, 18 further bits and
-        # RTR. In place of RTR, an FD frame has a dominant bit.
+        # The bits begin with the identifier. After its first 11 bits come either RTR and IDE, or SRR, IDE, the other 18
+        # bits and RTR. In place of RTR, an FD frame has a dominant bit.
         self.bits = f"{number:029b}{is_remote:b}" if is_extended else f"{number:011b}{is_remote:b}0"
         if is_extended:
             self.bits = f"{self.bits[:11]}11{self.bits[11:]}"
@@ -37,7 +38,7 @@ def is_match(word: int, identifier: int, mask: int) -> bool:
 
 
 class Socket:
-    """A raw socket, with its filters, its options and its waiting items."""
+    """A raw socket, with its filters, its options and its waiting frames and error messages."""
 
     def __init__(self, number: int, iface: int, capacity: int) -> None:
         self.number, self.iface, self.capacity = number, iface, capacity
@@ -46,7 +47,7 @@ class Socket:
         # Whether frames pass the filters, by identifier word.
         self.passed: dict[int, bool] = {}
         self.options = {"loopback": 1, "recvown": 0, "join": 0, "errmask": 0, "fd": 0}
-        # The words of the reply that hands out each waiting item.
+        # For each waiting item, the words of the reply that delivers it.
         self.queue: deque[list[str]] = deque()
         self.queued = self.dropped = self.taken = 0
 
@@ -56,8 +57,8 @@ class Socket:
         return len(self.queue)
 
     def passes(self, frame: Frame) -> bool:
-        """Returns whether a frame passes the filters. Without filters no frame passes. An FD frame also needs the option for FD
-        frames."""
+        """Returns whether a frame passes the filters. Without filters no frame passes. An FD frame passes only if the
+        socket has enabled FD frames."""
         if frame.is_fd and not self.options["fd"]:
             return False
         found = self.passed.get(frame.word)
@@ -68,7 +69,8 @@ class Socket:
 
 
 class Pending:
-    """A frame in a transmit queue, with its number and its socket. `contender` is the interface and the frame, for arbitration."""
+    """A frame in a transmit queue, with its number and the socket that sent it. `contender` is the interface and the
+    frame, for arbitration."""
 
     __slots__ = ("number", "frame", "socket", "loops_back", "contender")
 
@@ -120,7 +122,7 @@ class Interface:
         return lost
 
     def receive_error(self) -> None:
-        """Counts an error that the interface saw as a receiver."""
+        """Counts an error that the interface detected as a receiver."""
         self.rec = min(self.rec + 1, 255)
 
     def good_reception(self) -> None:

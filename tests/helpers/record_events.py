@@ -1,8 +1,7 @@
-"""The verdict of `canbusd audit` on a record, and the output of `audit --events`, by the rules of docs/DEFINITIONS.md.
-
-This is an independent model: a second implementation of the rules, with which the tests compare the proved program. The model does
-not run the program. It compares each reply in the record with the reply by the rules, so a replay to the end of a record is an
-audit.
+"""The verdict of `canbusd audit` on a record, and the output of `audit --events`, following the rules in
+docs/DEFINITIONS.md. This is an independent model: a second implementation of the rules, with which the tests compare
+the proved program. The model does not run the program. It compares each reply in the record with the reply that the
+rules require, so a replay to the end of a record is an audit.
 """
 
 import collections
@@ -17,7 +16,8 @@ from wire_times import Rates, ending_of
 
 FIRST_LINE = "canbus events 1"
 MOST_SOCKETS = 64
-# Bytes 2 and 3 of the error message frame for a fault: at the winner by the verdict, and at the hit interface by the local fault.
+# Bytes 2 and 3 of the error message frame for a fault. At the winner they depend on the verdict, and at the hit
+# interface on the local fault.
 AT_THE_WINNER = {"global-bit": (0x81, 0x0A), "global-form": (0x82, 0x1B), "local": (0x81, 0x00)}
 AT_THE_HIT = {"stuff": (0x04, 0x0A), "crc": (0x00, 0x08), "form": (0x02, 0x1B)}
 # Byte 1 of an error message frame for a change of state, by the severity of a counter: active, warning, passive.
@@ -28,26 +28,26 @@ Counts = tuple[int, int]
 
 @dataclass
 class Step:
-    """A step is an attempt with a frame, a restart or a down. If an attempt restarts interfaces, a step for each of them follows.
-    """
+    """A step is an attempt with a frame, a restart or a down. If an attempt restarts interfaces, a step for each of them follows."""
 
     #: The kind is done, lastbit, destroyed, noack, restart or down.
     kind: str
-    #: The number of the entry that makes the step, and the timestamp in that entry.
+    #: The index of the entry that causes the step, and the timestamp in that entry.
     entry: int
     moment: str
     #: The winner, or the interface that restarted or went down.
     iface: int
-    #: The number of earlier attempts with a frame, and the number of idle attempts since the step before.
+    #: The number of earlier attempts with a frame, and the number of idle attempts since the previous step.
     attempt: int
     idle: int
     #: The number of queued frames at each interface before the step.
     waiting: list[int]
-    #: For an attempt only: the number and the text of its frame, and the verdict of the script.
+    #: For an attempt only: the number of its frame, the frame in the notation of records, and the verdict of the
+    #: script.
     number: int = 0
     text: str = ""
     verdict: str = ""
-    #: The interfaces that accept the frame, those that go bus off, and those that are hit by a local fault.
+    #: The interfaces that accept the frame, those that go bus off, and those at which a local fault occurs.
     accepted: Sequence[int] = ()
     off: Sequence[int] = ()
     hit: Sequence[int] = ()
@@ -67,20 +67,20 @@ class Replay:
         self.open_sockets: list[list[Socket]] = [[] for _ in self.ifaces]
         self.frames: dict[str, Frame] = {}
         self.steps: list[Step] = []
-        #: The frames that bus off or a down removed from a transmit queue, by step.
+        #: The frames that were removed from a transmit queue by bus off or by a down, by step.
         self.lost: dict[int, list[Pending]] = {}
-        #: The numbers of the last steps before refused sends, by the interface and the reply `no-buffers`, `bus-off` or
-        #: `interface-down`.
+        #: For each interface and reply (`no-buffers`, `bus-off` or `interface-down`), the number of the last step
+        #: before each refused send.
         self.refused: dict[tuple[int, str], list[int]] = {}
         self.counts: tuple[Counts, ...] = ((0, 0),) * record.ifaces
         self.attempts = self.idle = 0
         # The number of idle attempts since the last step.
         self.idle_since = 0
         self.moment = ""
-        #: The effects of the latest step: the number of a socket, the text of an error message frame, and whether the socket had
-        #: room. The text is empty for the frame of the step.
+        #: The effects of the latest step: the number of a socket, an error message frame as a string, and whether the
+        #: socket had room. The string is empty if the item is the frame of the step.
         self.items: list[tuple[int, str, bool]] = []
-        #: The number of replayed entries, and the effects of each event by the number of its entry.
+        #: The number of replayed entries, and the effects of each event by the index of its entry.
         self.entries = 0
         self.parts: dict[int, list[str]] = {}
         self.go_on()
@@ -101,8 +101,7 @@ class Replay:
             self.entries += 1
 
     def parts_since(self, counts: Sequence[Counts], lost: Sequence[int]) -> list[str]:
-        """Returns the effects of an entry. The arguments are the error counters and the numbers of lost frames before that entry.
-        """
+        """Returns the effects of an entry. The arguments are the error counters and the numbers of lost frames before that entry."""
         parts = [f"counts {i} {tec} {rec}" for i, (tec, rec) in enumerate(self.counts) if (tec, rec) != counts[i]]
         parts += [f"lost {i} {iface.lost - lost[i]}" for i, iface in enumerate(self.ifaces) if iface.lost != lost[i]]
         queued, dropped = "", collections.Counter[int]()
@@ -116,14 +115,15 @@ class Replay:
         return parts + [f"{name}{words}" for name, words in (("put", queued), ("dropped", without_room)) if words]
 
     def lines(self, first: int = 0, rates: Optional[Rates] = None) -> Iterator[str]:
-        """Yields the event lines of all entries from `first` on. With bit rates, the lines have the times of attempts."""
+        """Yields the event lines of all entries from `first` onwards. With bit rates, the lines include the times of
+        attempts."""
         for entry in range(first, self.entries):
             line = self.record.lines[entry]
             took = wire_part(line, rates) if rates is not None else ""
             yield "; ".join([line, *self.parts.get(entry, ()), *filter(None, [took])])
 
     def frame(self, text: str) -> Frame:
-        """Returns the frame with this text. Equal texts give the same object."""
+        """Returns the frame in this notation. Equal strings return the same object."""
         if text not in self.frames:
             self.frames[text] = Frame(text)
         return self.frames[text]
@@ -152,7 +152,7 @@ class Replay:
         return ["socket", str(socket.number)]
 
     def on_close(self, _entry: int, number: str) -> list[str]:
-        """Closes a socket; items that were not received stay unread."""
+        """Closes a socket. Items that were not received remain unread."""
         socket = self.open_socket(number)
         if socket is None:
             return ["no-socket"]
@@ -201,12 +201,12 @@ class Replay:
         return ["number", str(iface.sent - 1)]
 
     def refuse(self, number: int, reply: str) -> list[str]:
-        """Notes a refused send, and returns the reply."""
+        """Records a refused send, and returns the reply."""
         self.refused.setdefault((number, reply), []).append(len(self.steps) - 1)
         return [reply]
 
     def on_receive(self, _entry: int, number: str) -> list[str]:
-        """Hands out the oldest item of a socket."""
+        """Delivers the oldest item of a socket."""
         socket = self.open_socket(number)
         if socket is None:
             return ["no-socket"]
@@ -225,7 +225,7 @@ class Replay:
         return ["ok"]
 
     def on_down(self, entry: int, number: str, moment: str) -> list[str]:
-        """Takes an interface down. No socket gets an item for that."""
+        """Takes an interface down. No socket gets an item about that."""
         if int(number) >= len(self.ifaces):
             return ["no-interface"]
         step = self.begin("down", entry, moment, int(number))
@@ -246,7 +246,7 @@ class Replay:
     # Attempts.
 
     def on_attempt(self, entry: int, moment: str, verdict: str) -> list[str]:
-        """Makes an attempt, and the restarts at its end."""
+        """Performs an attempt, and the restarts at its end."""
         due = self.count_attempt()
         reply = self.attempt(entry, moment, verdict)
         for number in due:
@@ -334,7 +334,8 @@ class Replay:
             winner.attempts_off = 0
 
     def post_frame(self, step: Step, sent: Pending) -> None:
-        """Posts the frame to the sockets of the interfaces that accepted it, and by loopback to those of its sender."""
+        """Posts the frame to the sockets of the interfaces that accepted it, and by loopback to the sockets of the
+        sending interface."""
         looped = [step.iface] if step.kind == "done" and sent.loops_back else []
         reply = ["data", str(step.iface), str(step.number), step.text, step.moment]
         for number in sorted([*step.accepted, *looped]):
@@ -343,7 +344,8 @@ class Replay:
                     self.put(socket, reply)
 
     def post_fault(self, step: Step, number: int, is_receiver: bool) -> None:
-        """If the interface reports faults, posts an error message frame for the fault that it saw in the attempt."""
+        """Posts an error message frame for the fault that the interface detected in the attempt, if the interface
+        reports faults."""
         kind, _, local = step.verdict.partition(":")[0].partition("-")
         place = None
         if not self.record.reporting >> number & 1:
@@ -383,7 +385,8 @@ class Replay:
                 self.put(socket, ["error", str(number), text, self.moment], text)
 
     def put(self, socket: Socket, reply: list[str], error: str = "") -> None:
-        """Posts an item to a socket, which drops the item if the queue is full. `error` is the text of an error message frame."""
+        """Posts an item to a socket, which drops the item if its queue is full. `error` is the error message frame, or
+        empty for other items."""
         has_room = len(socket.queue) < socket.capacity
         self.items.append((socket.number, error, has_room))
         if has_room:
@@ -400,7 +403,7 @@ class Replay:
         return Step(kind, entry, moment, iface, self.attempts, idle, waiting)
 
     def count_errors(self) -> bool:
-        """Notes the error counters of the interfaces, and returns whether any of them has changed."""
+        """Stores the error counters of the interfaces, and returns whether any of them has changed."""
         counts = tuple((iface.tec, iface.rec) for iface in self.ifaces)
         if counts == self.counts:
             return False
@@ -408,25 +411,25 @@ class Replay:
         return True
 
     def end(self, step: Step) -> None:
-        """Adds a step that is complete."""
+        """Adds a step that is now complete."""
         step.counts = self.counts
         self.steps.append(step)
         self.attempts += step.kind not in ("restart", "down")
 
 
 def wrong(entry: int, message: str) -> BadRecord:
-    """Returns the error for the entry with this number, which counts from 0."""
+    """Returns the error for the entry with this index, counted from 0."""
     return BadRecord(f"entry {entry}: {message}", f"entry {entry}: wrong")
 
 
 def spelled_set(numbers: Sequence[int]) -> str:
-    """Returns a set of interfaces in the notation of records."""
+    """Returns a set of interfaces in the notation used in records."""
     return f"{sum(1 << number for number in numbers):04X}"
 
 
 def wire_part(line: str, rates: Rates) -> str:
-    """Returns the part of an event line with the times of its attempt on the wire and the bits of its frame. The part is empty if
-    the attempt has no frame."""
+    """Returns the part of an event line that gives the times of its attempt on the wire and the bits of its frame. The
+    part is empty if the attempt has no frame."""
     words = line.split(" ")
     if words[0] != "attempt" or words[4] != "tried":
         return ""

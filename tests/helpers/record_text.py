@@ -1,4 +1,4 @@
-"""The text of a record, as docs/RECORD.md describes it: its grammar, and the bus and the entries that it has."""
+"""The text of a record, as docs/RECORD.md describes it: its grammar, and the bus and the entries that it contains."""
 
 import dataclasses
 import re
@@ -28,7 +28,8 @@ VERDICT = f"(?:good|global-bit|global-form|lastbit|local-(?:stuff|crc|form):{SET
 REFUSALS = ["no-interface", "bad-capacity", "too-many-sockets", "no-socket", "bus-off", "no-buffers", "not-bus-off"]
 MOST_FILTERS = 512
 
-# The patterns match data and remote frames, FD frames without flags, FD frames with or without flags, and error message frames.
+# Patterns for data and remote frames, for FD frames without flags, for FD frames with or without flags, and for error
+# message frames.
 IDENTIFIER = "(?:[0-7][0-9A-F]{2}|[01][0-9A-F]{7})"
 FRAME = f"{IDENTIFIER}#(?:(?:[0-9A-F]{{2}}){{0,8}}|R[1-8]?)"
 FD_BYTES = "|".join(f"[0-9A-F]{{{2 * length}}}" for length in (*range(9), 12, 16, 20, 24, 32, 48, 64))
@@ -40,14 +41,15 @@ NUMBER = "(0|[1-9][0-9]*)"
 BUS = f"bus {NUMBER} (always|peers) ({SET}) {NUMBER} {NUMBER}"
 
 
-# The approximate number of bytes that are read at once.
+# The approximate number of bytes that one read returns.
 BLOCK = 1 << 20
-# The largest number of entries: of a record that is written at the end of its run, and of one that is written during its run.
+# The largest number of entries in a record that is written at the end of its run, and in one that is written during its
+# run.
 MOST_ENTRIES, MOST_LIVE_ENTRIES = 1 << 24, (1 << 32) - 2
 
 
 class Version:
-    """A version of the format: the line of the bus, the limits, and the words and replies of each kind of event."""
+    """A version of the format: the line about the bus, the limits, and the words and replies of each kind of event."""
 
     def __init__(
         self, bus: str, fd: Optional[str] = None, limits: range = range(1, MOST_ENTRIES + 1), has_downs: bool = False
@@ -87,7 +89,8 @@ VERSION_5 = Version(f"{BUS} {NUMBER}", FLAGGED_FRAME)
 # Version 6 adds interfaces that go down.
 VERSION_6 = Version(f"{BUS} {NUMBER}", FLAGGED_FRAME, has_downs=True)
 LONG_LIMITS = range(MOST_ENTRIES + 1, MOST_LIVE_ENTRIES + 1)
-# The versions by their first line. Version 4 is only for records of long runs, and these have no other version.
+# The versions, by the first line of their records. Version 4 is only for records of long runs, and these have no other
+# version.
 VERSIONS = {
     "canbus record 1": Version(BUS),
     "canbus record 2": Version(f"{BUS} ([1-9][0-9]*)"),
@@ -99,7 +102,8 @@ VERSIONS = {
 
 
 class BadRecord(ValueError):
-    """The reason why these bytes are no record of a run. `verdict` is what `canbusd audit` says, such as `line 5: bad line`."""
+    """The reason why these bytes are not a valid record. `verdict` is what `canbusd audit` reports, such as `line 5:
+    bad line`."""
 
     def __init__(self, message: str, verdict: str) -> None:
         super().__init__(message)
@@ -107,7 +111,7 @@ class BadRecord(ValueError):
 
 
 def bad_line(number: int, message: str) -> BadRecord:
-    """Returns the error for the line with this number, which counts from 1."""
+    """Returns the error for the line with this number, counted from 1."""
     return BadRecord(f"line {number}: {message}", f"line {number}: bad line")
 
 
@@ -116,9 +120,9 @@ class RecordText:
     """The content of a record: the configuration of the bus, and the lines of the entries."""
 
     ifaces: int
-    #: Whether a silent node acknowledges every frame.
+    #: Whether the bus always acknowledges frames, as if it had a silent node.
     always: bool
-    #: The interfaces that report faults. Bit i is for interface i.
+    #: The interfaces that report faults. Bit i stands for interface i.
     reporting: int
     tx_capacity: int
     limit: int
@@ -129,19 +133,18 @@ class RecordText:
     is_cut: bool
 
     def entries(self, first: int = 0) -> Iterator[tuple[list[str], list[str]]]:
-        """Yields each entry from `first` on, as the words of its event and the words of its reply."""
+        """Yields each entry from `first` onwards, as the words of its event and the words of its reply."""
         for number in range(first, len(self.lines)):
             event, reply = self.lines[number].split(" = ")
             yield event.split(" "), reply.split(" ")
 
 
 def parse_text(data: bytes, cut: bool = False) -> RecordText:
-    """Returns the content of these bytes. Raises BadRecord at the first line that no record can have.
-
-    If `cut` is true, the line `end` may be missing. Text after the last LF is then ignored.
+    """Returns the record that these bytes contain. Raises BadRecord at the first line that is not valid in a record. If
+    `cut` is true, the line `end` may be missing. Text after the last LF is then ignored.
     """
     reader, end = TextReader(), data.rfind(b"\n") + 1
-    # A byte that no record can have is reported before any wrong line.
+    # A byte that is not valid in a record is reported before any wrong line.
     for block in blocks_of(data, end):
         decoded(block)
     if not cut:
@@ -161,7 +164,7 @@ def blocks_of(data: bytes, end: int) -> Iterator[bytes]:
 
 
 def decoded(data: bytes) -> str:
-    """Returns these bytes as text."""
+    """Returns these bytes decoded as a string."""
     try:
         return data.decode()
     except UnicodeDecodeError:
@@ -182,7 +185,8 @@ class TextReader:
 
     @property
     def bus(self) -> Optional[RecordText]:
-        """Returns the bus, or None before its line has been read. The list of the bus grows as further lines are read."""
+        """Returns the record so far, or None before the line about the bus has been read. Its list of entries grows as
+        further lines are read."""
         return self._bus
 
     def take(self, lines: Iterable[str]) -> None:
@@ -211,9 +215,8 @@ class TextReader:
             self.is_ended = True
 
     def finish(self, is_torn: bool = False, cut: bool = False) -> RecordText:
-        """Returns the content of the lines. `is_torn` is true if an incomplete line follows them.
-
-        If `cut` is true, the line `end` may be missing.
+        """Returns the record that the lines contain. `is_torn` is true if an incomplete line follows them. If `cut` is
+        true, the line `end` may be missing.
         """
         if self._version is None:
             raise no_version()
@@ -239,7 +242,7 @@ class TextReader:
 
 
 def no_version() -> BadRecord:
-    """Returns the error for a text whose first line is that of no version."""
+    """Returns the error for a text whose first line is not that of any version."""
     first = " or ".join(f"`{line}`" for line in VERSIONS)
     return BadRecord(f"no record: its first line is not {first}", "bad version")
 
@@ -252,7 +255,7 @@ def version_of(line: str) -> Version:
 
 
 def needs_fd(line: str) -> bool:
-    """Returns whether the line is too new for versions 1 and 2: it has an FD frame or the option for FD frames."""
+    """Returns whether the line requires version 3 or later: it has an FD frame or the option for FD frames."""
     return "##" in line or line.startswith("option ") and line.split(" ")[2] == "fd"
 
 

@@ -1,8 +1,6 @@
-/* Refuses memory to the program that loads it (LD_PRELOAD), as test_memory.py needs it.
- *
- * REFUSE names a file of three 64-bit numbers that the test and the program share: how often the program has asked for
- * memory, and the first and the last request that are refused, counted from 1. The start of a thread is a request too.
- */
+/* Refuses memory to the program that loads it (LD_PRELOAD), as test_memory.py needs it. REFUSE names a file of three
+ * 64-bit integers that the test and the program share: how often the program has requested memory, and the first and
+ * the last request that are refused, counted from 1. Starting a thread also counts as a request. */
 #define _GNU_SOURCE
 #include <dlfcn.h>
 #include <errno.h>

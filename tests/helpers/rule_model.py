@@ -1,7 +1,6 @@
-"""Finds the rule that decided each attempt of a record, from the faults of the run, as docs/RECORD.md describes.
-
-This is an independent model, with which the tests compare the program. It parses a rule by one regular expression, and does not use
-the package's rules.
+"""Finds the rule that decided each attempt in a record, from the faults of the run, as docs/RECORD.md describes. This
+is an independent model, with which the tests compare the program. It parses a rule with one regular expression, and
+does not use the package's rules.
 """
 
 import re
@@ -20,7 +19,7 @@ EXTENDED, REMOTE, INVERTED = 1 << 31, 1 << 30, 1 << 29
 
 
 class Rule:
-    """A rule that the bus accepted, with its number. It counts the attempts that it still has to skip and to decide."""
+    """A rule that the bus accepted, with its number. It stores how many attempts it still has to skip and to decide."""
 
     def __init__(self, number: int, text: str, names: Sequence[str]) -> None:
         found = RULE.fullmatch(text)
@@ -41,11 +40,11 @@ class Rule:
 
 
 class RunFaults:
-    """The faults of a run: numbered lines, rules, and the changes during the run."""
+    """The faults of a run: numbered lines, rules, and changes during the run."""
 
     def __init__(self, text: str, names: Sequence[str]) -> None:
         self.names, self.taken = names, 0
-        #: The rules that have not been used up.
+        #: The rules that still have attempts to decide.
         self.rules: list[Rule] = []
         #: The verdicts of numbered lines, by the number of the attempt.
         self.lines: dict[int, str] = {}
@@ -54,7 +53,7 @@ class RunFaults:
         self.later: list[tuple[int, str]] = []
         #: The number of attempts with a frame.
         self.tried = 0
-        #: The event lines since the last call of `tell`, about rules that were accepted or ended.
+        #: The event lines about rules that were accepted or ended, since the last call of `tell`.
         self.told: list[str] = []
         for line in filter(None, text.split("\n")):
             later, numbered = LATER.fullmatch(line), NUMBERED.fullmatch(line)
@@ -92,7 +91,8 @@ class RunFaults:
         return told
 
     def part(self, line: str) -> str:
-        """Returns the part about a rule that ends the event line of this entry, or the empty text if no rule decided."""
+        """Returns the part about the deciding rule, which ends the event line of this entry. Returns the empty string
+        if no rule decided."""
         words = line.split(" ")
         if words[0] != "attempt" or words[4] != "tried":
             return ""
@@ -100,9 +100,8 @@ class RunFaults:
         return f"rule {rule}" if rule and verdict == words[2] else ""
 
     def decide(self, winner: int, word: int) -> "tuple[str, int | None]":
-        """Returns the verdict of the next attempt with a frame, and the number of the rule that decided it, or None.
-
-        Earlier rules that match count this attempt as one that they skip.
+        """Returns the verdict of the next attempt with a frame, and the number of the rule that decided it, or None. An
+        earlier rule that matches but still skips counts this attempt as skipped.
         """
         self.catch_up(self.tried)
         line = self.lines.get(self.tried)
@@ -124,7 +123,8 @@ class RunFaults:
 
 
 def words_of(identifier: "str | None", mask: "str | None") -> tuple[int, int]:
-    """Returns the identifier word and the mask of a rule. The flag of remote frames counts only if the rule has a mask."""
+    """Returns the identifier word and the mask of a rule. Whether a frame is a remote frame is compared only if the
+    rule has a mask."""
     if identifier is None:
         return 0, 0
     number = int(identifier, 16)
@@ -134,14 +134,14 @@ def words_of(identifier: "str | None", mask: "str | None") -> tuple[int, int]:
 
 
 def word_of(frame: str) -> int:
-    """Returns the identifier word of a frame in the notation of records."""
+    """Returns the identifier word of a frame in the notation used in records."""
     identifier, _, data = frame.partition("#")
     word = int(identifier, 16) | (EXTENDED if len(identifier) == 8 else 0)
     return word | (REMOTE if data.startswith("R") else 0)
 
 
 def recorded(verdict: str, names: Sequence[str]) -> str:
-    """Returns the verdict of a script in the notation of records."""
+    """Returns the verdict of a script in the notation used in records."""
     words = verdict.split(" ")
     if words[0] != "local":
         return "-".join(words)
@@ -150,7 +150,7 @@ def recorded(verdict: str, names: Sequence[str]) -> str:
 
 
 def written(found: "re.Match[str]", names: Sequence[str]) -> str:
-    """Returns a rule in the program's words: interfaces as numbers, identifier and mask in 8 digits each."""
+    """Returns a rule as the program writes it: interfaces as numbers, identifier and mask in 8 digits each."""
     words = [f"next {int(found['count'])}" if found["count"] else "always"]
     if found["senders"]:
         words.append(f"from {in_places(found['senders'], names)}")
@@ -174,13 +174,13 @@ def in_places(given: str, names: Sequence[str]) -> str:
 
 
 def with_rules(events: str, faults: RunFaults) -> str:
-    """Adds to the text of a record's events the rules that the bus accepted, and the deciding rules."""
+    """Adds lines for the accepted rules and the deciding rules to a record's events."""
     return "".join(f"{line}\n" for line in ruled_lines(events.splitlines(), faults))
 
 
 def ruled_lines(lines: Sequence[str], faults: RunFaults) -> Iterator[str]:
-    """Yields the event lines with their parts about rules, and the lines about rules. The script's rules come after the second
-    line, each change comes before its attempt, and the remaining changes come before the last line."""
+    """Yields the event lines with their parts about rules, and the lines about rules. The script's rules come after the
+    second line, each change comes before its attempt, and the remaining changes come before the last line."""
     for place, line in enumerate(lines):
         if line.startswith(("end ", "cut ")):
             faults.catch_up(1 << 64)
@@ -191,5 +191,5 @@ def ruled_lines(lines: Sequence[str], faults: RunFaults) -> Iterator[str]:
 
 
 def rules_of(events):
-    """Returns the number of the deciding rule of each attempt with a frame, or the empty text if no rule decided."""
+    """Returns the number of the deciding rule for each attempt with a frame, or the empty string if no rule decided."""
     return [line.partition("; rule ")[2] for line in events.splitlines() if " = tried " in line]

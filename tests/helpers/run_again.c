@@ -1,6 +1,6 @@
-/* Makes a program run once for each byte of a file, each time in a fork of itself before its main function
- * (LD_PRELOAD), as run_again.py needs it. Each status, as waitpid gives it, is written to another file. RUN_AGAIN has
- * the file descriptors of both files. */
+/* Makes a program run once for each byte of a file, each time in a fork of itself that is made before its main function
+ * (LD_PRELOAD), as run_again.py needs it. Each status, as waitpid returns it, is written to another file. RUN_AGAIN
+ * contains the file descriptors of both files. */
 #include <stdio.h>
 #include <stdlib.h>
 #include <sys/wait.h>

@@ -1,4 +1,5 @@
-"""canbusd-run for tests: the command itself, C programs that are compiled for a test, and processes that a run leaves."""
+"""canbusd-run for tests: the command itself, C programs that are compiled for a test, and processes that are left after
+a run."""
 
 import contextlib
 import functools
@@ -55,7 +56,7 @@ def compiled(name, folder, *flags):
 
 
 def environment(server, **more):
-    """Returns the environment with which canbusd-run finds this server."""
+    """Returns the environment in which canbusd-run finds this server."""
     address = server.address
     if address.startswith("."):
         address = os.path.join(server.folder, address)
@@ -78,7 +79,7 @@ def passes(server, *words, **how):
 
 @contextlib.contextmanager
 def started(server, *words, options=(), **how):
-    """Starts a program with canbusd-run in its own process group. The end of the block ends this group."""
+    """Starts a program with canbusd-run in a separate process group. At the end of the block this group is ended."""
     how.setdefault("env", environment(server))
     how = {"stdout": subprocess.PIPE, "stderr": subprocess.PIPE, "text": True, "start_new_session": True, **how}
     with subprocess.Popen([command(), *options, "--", *words], **how) as child:
@@ -90,7 +91,7 @@ def started(server, *words, options=(), **how):
 
 
 def processes_of(address, name):
-    """Returns the ids of running processes with this name that belong to a server at this address."""
+    """Returns the process ids of running processes with this name that belong to a server at this address."""
     found = []
     for process in filter(str.isdigit, os.listdir("/proc")):
         with contextlib.suppress(OSError):
@@ -104,7 +105,7 @@ def processes_of(address, name):
 
 
 def bridges(address):
-    """Returns the ids of the running bridges to a server at this address."""
+    """Returns the process ids of the running bridges to a server at this address."""
     return processes_of(address, "canbusd-bridge")
 
 
@@ -126,8 +127,8 @@ def settled(child):
             return file.read().split()[0]
 
     def waits():
-        # canbusd-run itself waits in these calls too, for replies of the server. The name of its process may change between
-        # two reads, so the name is read before and after the call.
+        # canbusd-run itself waits in these calls too, for replies from the server. The name of its process may change
+        # between two reads, so the name is read before and after the call.
         before, call, after = fact("comm"), fact("syscall"), fact("comm")
         return "canbusd-run" not in (before, after) and call in map(str, WAITING)
 
@@ -146,7 +147,7 @@ def listening(server, *words, **how):
 
 
 def written(child, patience=WAIT):
-    """Waits until the program ends by itself with status 0, and returns its output."""
+    """Waits until the program exits by itself with status 0, and returns its output."""
     output, errors = child.communicate(timeout=patience)
     assert child.returncode == 0, f"status {child.returncode}: {output}{errors}"
     return output

@@ -1,7 +1,6 @@
-"""A server in its own folder, and clients that are plain sockets.
-
-The package's Server has one way to end a server, and its clients interpret messages. This module shows the processes, the streams
-and the end of a server from outside. Its clients return each text unchanged.
+"""A server in a separate folder, and clients that are plain sockets. The package's Server has only one way to end a
+server, and its clients interpret messages. This module shows the processes, the streams and the end of a server from
+outside. Its clients return each message unchanged.
 """
 
 import contextlib
@@ -43,7 +42,7 @@ def program():
 
 
 class NoProgram(Exception):
-    """There is no program to test. The text says how to get one."""
+    """There is no program to test. The message says how to get one."""
 
 
 @functools.lru_cache(maxsize=None)
@@ -53,11 +52,11 @@ def writes_live():
 
 
 class NotListening(Exception):
-    """A server did not print its address. The text is what it printed instead."""
+    """A server did not print its address. The message is what it printed instead."""
 
 
 def come_true(question, patience=WAIT):
-    """Waits until the condition is true, and returns whether that happened within these seconds."""
+    """Waits until the condition is true, and returns whether that happened within `patience` seconds."""
     until = time.monotonic() + patience
     while time.monotonic() < until:
         if question():
@@ -67,7 +66,7 @@ def come_true(question, patience=WAIT):
 
 
 def turns(what, patience=WAIT):
-    """Yields until the loop is left. If that takes too long, the test fails with the name of the awaited event."""
+    """Yields until the loop is left. If that takes too long, fails the test with the name of the awaited event."""
     until = time.monotonic() + patience
     while time.monotonic() < until:
         yield
@@ -75,7 +74,7 @@ def turns(what, patience=WAIT):
 
 
 def join(threads, patience=WAIT):
-    """Waits until these threads have ended, at most this many seconds for all of them."""
+    """Waits until these threads have ended, at most `patience` seconds for all of them together."""
     until = time.monotonic() + patience
     for thread in threads:
         thread.join(max(0, until - time.monotonic()))
@@ -84,7 +83,7 @@ def join(threads, patience=WAIT):
 
 @contextlib.contextmanager
 def one_at_a_time(what):
-    """Lets only one test of this user on this machine run such a block at a time."""
+    """Ensures that only one test of this user on this machine runs such a block at a time."""
     path = os.path.join(tempfile.gettempdir(), f"canbusd-tests-{os.getuid()}-{what}.lock")
     with open(path, "w", encoding="ascii") as file:
         fcntl.flock(file, fcntl.LOCK_EX)
@@ -107,16 +106,16 @@ def all_sleep(processes):
 
 
 def line_of(stream):
-    """Returns the next line of a text pipe. The pipe must not be read in any other way."""
+    """Returns the next line from a text pipe. The pipe must not be read in any other way."""
     assert select.select([stream], [], [], WAIT)[0], "it writes nothing"
     return stream.readline()
 
 
 class Server:
-    """A server that runs in its own folder and in its own process group.
-
-    `launcher` is True for the launcher's part for servers, a path for another launcher, or False for the program itself. Ctrl-C
-    ends the server, or the end of its input if that is a pipe. The server's files are in the folder unless `out` names another one.
+    """A server that runs in a separate folder and in a separate process group. `launcher` is True for the part of the
+    launcher that starts servers, a path for another launcher, or False for the program itself. Ctrl-C ends the server,
+    and so does the end of its input if that is a pipe. The server's files are in the folder unless `out` names another
+    folder.
     """
 
     def __init__(self, *words, address="127.0.0.1:0", launcher=True, out=".", **how):
@@ -167,17 +166,17 @@ class Server:
         return sum(int(fields[11]) + int(fields[12]) for _, fields in self.processes())
 
     def held(self):
-        """Returns the number of file descriptors and threads of the server's processes."""
+        """Returns how many file descriptors and threads the server's processes have."""
         return sum(
             len(os.listdir(f"/proc/{process}/{what}")) for process, _ in self.processes() for what in ("fd", "task")
         )
 
     def rests(self):
-        """Returns whether all threads of the server are waiting."""
+        """Returns whether all threads of the server are asleep."""
         return all_sleep([process for process, _ in self.processes()])
 
     def memory(self, what):
-        """Returns the memory of the server's processes in kilobytes, by VmRSS or VmHWM of their status."""
+        """Returns the memory of the server's processes in kilobytes, by the field VmRSS or VmHWM of their status."""
         held = 0
         for process, _ in self.processes():
             with contextlib.suppress(OSError), open(f"/proc/{process}/status", encoding="utf-8") as status:
@@ -202,7 +201,7 @@ class Server:
         return written
 
     def audited(self, name):
-        """Returns the number of entries in the record with this name, by the audit."""
+        """Returns the number of entries in the record with this name, as the audit reports it."""
         audit = subprocess.run([program(), "audit", self.path(name)], capture_output=True, text=True, check=False)
         assert re.fullmatch(r"ok \d+ entries\n", audit.stdout), f"the audit: {audit.stdout}{audit.stderr}"
         return int(audit.stdout.split()[1])
@@ -218,7 +217,7 @@ class Server:
 
 @contextlib.contextmanager
 def serving(*words, **how):
-    """A server that always ends with the block."""
+    """A server that is always ended with the block."""
     server = Server(*words, **how)
     try:
         yield server
@@ -232,7 +231,7 @@ def serving_alone(*words, **how):
 
 
 class Plain:
-    """A connection by a plain socket, which returns each text unchanged."""
+    """A connection through a plain socket, which returns each message unchanged."""
 
     def __init__(self, server):
         self.rest = ""
@@ -247,7 +246,7 @@ class Plain:
         self.socket.sendall(text.encode())
 
     def text(self):
-        """Returns the next message, or the empty text if the connection has been closed."""
+        """Returns the next message, or the empty string if the connection has been closed."""
         while ">" not in self.rest:
             piece = self.socket.recv(65536)
             if not piece:
@@ -280,8 +279,8 @@ def plain(server, name):
 
 
 class Pair:
-    """Two sessions that exchange frames even on a busy bus: they use the 29-bit identifier 0, which wins against all others but the
-    11-bit identifier 0. No other session sends it."""
+    """Two sessions that exchange frames even on a busy bus: they use the 29-bit identifier 0, which wins against every
+    identifier except the 11-bit identifier 0, which no other session sends."""
 
     def __init__(self, server, source="can0", target="can1"):
         self.source, self.target, self.count = plain(server, source), plain(server, target), 0

@@ -1,7 +1,6 @@
 """The options and fixtures that the tests of the program and of canbusd-run share. Each conftest.py registers them.
-
-CANBUSD names the program, which otherwise is the program of these sources. Without a program no test runs. TESTS_CASES is the
-number of random inputs for a test, unless --cases gives another number.
+CANBUSD names the program to test. By default it is the program built from these sources. Without a program no test
+runs. TESTS_CASES is the number of random inputs for a test, unless --cases gives another number.
 """
 
 import importlib.util
@@ -28,11 +27,11 @@ for ignored in (signal.SIGINT, signal.SIGQUIT, signal.SIGHUP):
 
 
 def share(pluginmanager):
-    """Registers this module as a plugin, once, for any number of test folders."""
+    """Registers this module as a plugin, only once for any number of test folders."""
     if not pluginmanager.has_plugin(__name__):
         pluginmanager.register(sys.modules[__name__], __name__)
-    # If the package is not installed, pytest has not found the plugin by itself. The package's tests need it if they run together
-    # with these.
+    # If the package is not installed, pytest has not loaded the plugin by itself. The package's tests need the plugin
+    # if they run together with these tests.
     pluginmanager.import_plugin("canbusd.pytest_plugin")
 
 
@@ -91,7 +90,8 @@ def cases(request):
 
 @pytest.fixture
 def fixed_ports():
-    """For tests that listen at a fixed port of a document or of another program. Only one of these tests runs at a time."""
+    """For tests that listen on a fixed port from a document or of another program. Only one of these tests runs at a
+    time."""
     with serving.one_at_a_time("ports"):
         yield
 

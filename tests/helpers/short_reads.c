@@ -1,4 +1,5 @@
-/* Lets each read of standard input, a file, give at most one byte (LD_PRELOAD), as test_bench_lines.py needs it. */
+/* Makes each read from standard input, which is a file, return at most one byte (LD_PRELOAD), as test_bench_lines.py
+   needs it. */
 #include <sys/syscall.h>
 #include <unistd.h>
 

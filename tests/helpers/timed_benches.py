@@ -1,4 +1,4 @@
-"""Benches with bit rates: the options, frames as messages, and the output about attempts."""
+"""Benches with bit rates: the options, frames as messages, and the output for attempts."""
 
 from __future__ import annotations
 
@@ -21,7 +21,7 @@ def moment(nanos: int) -> str:
 def bench(
     program: str, options: Sequence[str], names: Sequence[str], lines: Iterable[str], status: int = 0
 ) -> list[str]:
-    """Returns the output of a bench about its attempts. The bench has a session on each interface."""
+    """Returns the output of a bench for its attempts. The bench has a session on each interface."""
     opened = []
     for number, name in enumerate(names, 1):
         opened += [f"session {number}", f"feed {number} < open {name} >< rawmode >< fdframes 1 >"]

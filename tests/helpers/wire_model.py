@@ -12,8 +12,9 @@ from collections.abc import Iterator, Sequence
 
 FD_LENGTHS = [0, 1, 2, 3, 4, 5, 6, 7, 8, 12, 16, 20, 24, 32, 48, 64]
 ACKNOWLEDGED_END = [1, 0, 1] + 7 * [1]
-# The number of bits from start of frame to end of frame. For 000# it was worked out by hand: 34 zeros including those of the CRC, 6
-# stuff bits, 10 bits at the end. The other numbers come from the fields of the frames and from a second model.
+# The number of bits from start of frame to end of frame. For 000# it was worked out by hand: 34 zeros including those
+# of the CRC, 6 stuff bits, and 10 bits at the end. The other lengths come from the fields of the frames and from a
+# second model.
 KNOWN_LENGTHS = [
     ("000#", 50),
     ("123#", 45),
@@ -28,7 +29,7 @@ KNOWN_LENGTHS = [
 
 @dataclasses.dataclass(frozen=True)
 class Frame:
-    """A frame. `requests` is the length in the DLC of a remote frame."""
+    """A frame. `requests` is the length in the DLC field of a remote frame."""
 
     number: int
     extended: bool
@@ -40,7 +41,7 @@ class Frame:
 
     @staticmethod
     def read(text: str) -> Frame:
-        """Returns the frame for a text in candump's notation. Of the flags of an FD frame, 1 is BRS and 2 is ESI."""
+        """Returns the frame for a string in candump's notation. Of the flags of an FD frame, 1 is BRS and 2 is ESI."""
         word, payload = text.split("#", 1)
         number, extended = int(word, 16), len(word) == 8
         if payload.startswith("#"):
@@ -57,7 +58,7 @@ class Frame:
 
 
 def number_bits(number: int, count: int) -> list[int]:
-    """Returns the lowest `count` bits of a number, highest bit first."""
+    """Returns the lowest `count` bits of a number, the highest bit first."""
     return [number >> place & 1 for place in reversed(range(count))]
 
 
@@ -151,13 +152,13 @@ def sent(frame: Frame) -> Sender:
 
 
 def bit_counts(frame: Frame) -> tuple[int, int]:
-    """Returns the number of bits of a frame at the nominal bit rate and at the data bit rate."""
+    """Returns how many bits of a frame are sent at the nominal bit rate and how many at the data bit rate."""
     sender = sent(frame)
     return len(sender.bits) - sender.fast, sender.fast
 
 
 def random_data(maker: random.Random, length: int) -> bytes:
-    """Returns random data. Some has many equal bits in a row, and so needs stuff bits."""
+    """Returns random data. Some of it has many equal bits in a row, and so needs stuff bits."""
     choices = b"\x00\xff\x0f\xf8\x83\x3c" if maker.random() < 0.5 else bytes(range(256))
     return bytes(maker.choice(choices) for _ in range(length))
 

@@ -1,9 +1,7 @@
-"""The times of frames on a bus with bit rates, independent of the program: lengths of attempts, the order of frames, and worst
-response times by analysis.
-
-The bits of a frame are those of wire_model.py. The end of a failed attempt is defined by this project
-(crates/can_wire/specs/AttemptBits.antt). Times are in nanoseconds. They are exact, except that the end of each attempt is rounded
-up.
+"""The times of frames on a bus with bit rates, independent of the program: lengths of attempts, the order of frames,
+and worst response times by analysis. The bits of a frame come from wire_model.py. The end of a failed attempt is
+defined by this project (crates/can_wire/specs/AttemptBits.antt). Times are in nanoseconds. They are exact, except that
+the end of each attempt is rounded up.
 """
 
 from __future__ import annotations
@@ -18,10 +16,10 @@ from wire_model import FD_LENGTHS, Frame, Sender, arbitration_bits, bit_counts, 
 
 SECOND = 10**9
 INTERMISSION = 3
-# The number of bits of CRC delimiter, ACK slot, ACK delimiter and end of frame.
+# The number of bits in CRC delimiter, ACK slot, ACK delimiter and end of frame.
 FRAME_END = 10
 ERROR_DELIMITER = 8
-#: The number of bits of an attempt without a frame.
+#: The number of bits in an attempt without a frame.
 IDLE = 11
 
 
@@ -40,15 +38,14 @@ ENDINGS = {"done": Ending.DONE, "lastbit": Ending.LAST_BIT, "noack": Ending.NO_A
 
 
 def ending_of(kind: str, verdict: str) -> Ending:
-    """Returns how an attempt with this outcome and this verdict ends. After bit errors and stuff errors the error flag comes early.
-    """
+    """Returns how an attempt with this outcome and this verdict ends. After bit errors and stuff errors the error flag comes early."""
     early = Ending.AFTER_DATA if verdict.startswith(("global-bit", "local-stuff")) else Ending.AFTER_CRC
     return ENDINGS.get(kind, early)
 
 
 @dataclasses.dataclass(frozen=True)
 class Rates:
-    """The bit rates of a bus. FD frames with BRS switch to the second rate, if the bus has one."""
+    """The bit rates of a bus. FD frames with BRS switch to the second bit rate, if the bus has one."""
 
     nominal: int
     fast: int | None = None
@@ -74,7 +71,7 @@ class Rates:
 
 
 def bits_to_data_end(frame: Frame) -> tuple[int, int]:
-    """Returns the numbers of bits from start of frame to the last data bit, at both bit rates."""
+    """Returns how many bits are sent from start of frame to the last data bit, at each bit rate."""
     sender = Sender()
     length = len(frame.data) if frame.requests is None else frame.requests
     if frame.is_fd:
@@ -88,7 +85,7 @@ def bits_to_data_end(frame: Frame) -> tuple[int, int]:
 
 
 def attempt_bits(frame: Frame, ending: Ending) -> tuple[int, int]:
-    """Returns the numbers of bits of an attempt with intermission, at both bit rates."""
+    """Returns how many bits an attempt takes with its intermission, at each bit rate."""
     nominal, fast = bit_counts(frame)
     if ending is Ending.DONE:
         return nominal + INTERMISSION, fast
@@ -107,7 +104,8 @@ def attempt_bits(frame: Frame, ending: Ending) -> tuple[int, int]:
 
 @dataclasses.dataclass(frozen=True)
 class Release:
-    """A frame that a node queues at `time`, which is `late` after the due time. A node sends its frames in order."""
+    """A frame that a node queues at `time`, which is `late` after the due time. A node sends its frames in the order in
+    which they were queued."""
 
     time: int
     node: int
@@ -131,7 +129,8 @@ class Sent:
 
 
 def simulated(releases: Iterable[Release], rates: Rates) -> Iterator[Sent]:
-    """Yields the frames that a bus sends. At each start, the first frames of the queues compete, and the lowest bits win."""
+    """Yields the frames that a bus sends. Whenever a frame may start, the first frames of the queues compete, and the
+    one with the lowest bits wins."""
     coming = sorted(releases, key=lambda release: release.time)
     queues: dict[int, list[Release]] = {}
     now = 0
@@ -162,7 +161,7 @@ class Message:
     jitter: int = 0
 
     def releases(self, node: int, offset: int, until: int, lateness: Sequence[int] = (0,)) -> Iterator[Release]:
-        """Yields the releases of the message before a time. The delays are taken in turn from `lateness`."""
+        """Yields the releases of the message before `until`. The delays are taken in turn from `lateness`."""
         for number, due in enumerate(range(offset, until, self.period)):
             late = lateness[number % len(lateness)]
             yield Release(due + late, node, self.frame, late)
@@ -173,8 +172,9 @@ def up(time: int, period: int) -> int:
 
 
 def worst_response(messages: Sequence[Message], place: int, rates: Rates) -> int:
-    """Returns the worst response time of the message at this place. The messages are in falling priority (Davis, Burns, Bril and
-    Lukkien, "Controller Area Network (CAN) schedulability analysis: Refuted, revisited and revised", Real-Time Systems 35, 2007).
+    """Returns the worst response time of the message at this index. The messages are in order of falling priority
+    (Davis, Burns, Bril and Lukkien, "Controller Area Network (CAN) schedulability analysis: Refuted, revisited and
+    revised", Real-Time Systems 35, 2007).
     """
     lengths = [rates.attempt_nanos(message.frame) for message in messages]
     bit = rates.nanos((1, 0))
@@ -202,7 +202,7 @@ def worst_response(messages: Sequence[Message], place: int, rates: Rates) -> int
 
 
 def use(messages: Sequence[Message], rates: Rates) -> fractions.Fraction:
-    """Returns the share of time that these messages take on the bus."""
+    """Returns the share of the bus time that these messages occupy."""
     return sum(
         (fractions.Fraction(rates.attempt_nanos(message.frame), message.period) for message in messages),
         fractions.Fraction(0),

@@ -1,7 +1,7 @@
-/* Tests of the benches of libcanbusd. With arguments, the program makes a bench, carries out the lines of standard
+/* Tests of the benches of libcanbusd. With arguments, the program creates a bench, carries out the lines of standard
  * input, and writes their output. The arguments are NAMES ACK LIMIT AUTO_RESTART BITRATE DATA_BITRATE SHOWS_FAULTS
- * FAULTS STEP. Each call takes at least STEP bytes, up to the end of a line. Without arguments, the program tests which
- * calls are refused, and that a refusal keeps the state. */
+ * FAULTS STEP. Each call passes at least STEP bytes, up to the end of a line. Without arguments, the program tests
+ * which calls are refused, and that a refused call leaves the state unchanged. */
 #include <canbusd.h>
 
 #include <stdio.h>
@@ -30,7 +30,7 @@ static canbusd_bench *made(void) {
     return bench;
 }
 
-/* Carries out lines, and checks the code, the number of the wrong line, and the output. */
+/* Carries out lines, and checks the return code, the number of the wrong line, and the output. */
 static void takes(canbusd_bench *bench, const char *lines, uint32_t code, size_t wrong, const char *output, int place) {
     char found[1000];
     size_t len = 99, line = 99;
@@ -71,7 +71,7 @@ static void a_wrong_line_keeps_the_others(void) {
     canbusd_bench_free(bench);
 }
 
-/* A line has at most 4,096 bytes, and the whole input at most 16,777,216. */
+/* A line has at most 4,096 bytes, and the whole input has at most 16,777,216 bytes. */
 static void lines_have_their_limits(void) {
     canbusd_bench *bench = made();
     size_t many = 16777217, len = 99, line = 99, end;
@@ -114,7 +114,7 @@ static void output_is_kept(void) {
     canbusd_bench_free(bench);
 }
 
-/* Checks that no bench is made, and that the code and the number of the line are these. */
+/* Checks that no bench is created, and that the call reports this error code and this line number. */
 static void refuses(const char *names, canbusd_config config, uint32_t capacity, const char *faults, uint32_t code,
                     size_t wrong, int place) {
     canbusd_bench *bench = (canbusd_bench *)&config;
@@ -145,7 +145,7 @@ static void what_is_no_bench_is_refused(void) {
     REFUSES("can0", wrong, 256, NULL, CANBUSD_BAD_BIT_RATES, 0);
 }
 
-/* A bus takes 64 rules, and refuses one more. */
+/* A bus holds 64 rules, and refuses one more. */
 static void rules_have_their_limit(void) {
     canbusd_config config = CANBUSD_CONFIG;
     canbusd_bench *bench = NULL;
@@ -201,7 +201,7 @@ static void benches_are_apart(void) {
     }
 }
 
-/* Returns all of standard input. */
+/* Returns the whole standard input. */
 static char *input(size_t *len) {
     char *text = NULL;
     size_t room = 0, more;
@@ -217,7 +217,7 @@ static char *input(size_t *len) {
     return text;
 }
 
-/* Writes the output of these lines. */
+/* Writes the output that the bench produces for these lines. */
 static int writes(canbusd_bench *bench, const char *lines, size_t len) {
     char few[8], *all;
     size_t size = 0;

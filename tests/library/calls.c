@@ -41,7 +41,7 @@ static uint32_t opened(canbusd *bus, uint32_t iface) {
     return socket;
 }
 
-/* The layout of a frame and the constants are the same as in the kernel's headers. */
+/* The layout of a frame and the constants match the kernel's headers. */
 static void is_as_linux(void) {
     EQ(sizeof(canbusd_frame), sizeof(struct canfd_frame));
     EQ(offsetof(canbusd_frame, len), offsetof(struct canfd_frame, len));
@@ -91,7 +91,7 @@ static void a_frame_goes_over_the_bus(void) {
     canbusd_free(bus);
 }
 
-/* A frame of every form in linux/can.h arrives unchanged. A frame of any other form is refused. */
+/* A frame of each form that linux/can.h defines arrives unchanged. A frame of any other form is refused. */
 static void frames_keep_their_shape(void) {
     static const uint8_t lengths[] = {0, 1, 2, 3, 4, 5, 6, 7, 8, 12, 16, 20, 24, 32, 48, 64};
     canbusd *bus = made("can0,can1", usual());
@@ -175,8 +175,8 @@ static void errors_count(void) {
     canbusd_free(bus);
 }
 
-/* ISO 11898-1: a frame 555 without data has 44 bits, its stuff bits and 3 bits of intermission. At 500 kbit/s a bit
- * takes 2 microseconds. */
+/* ISO 11898-1: a frame 555 without data has 44 bits, plus its stuff bits and 3 bits of intermission. At 500 kbit/s a
+ * bit takes 2 microseconds. */
 static void bits_take_time(void) {
     canbusd_config config = CANBUSD_CONFIG;
     canbusd *bus;
@@ -194,7 +194,7 @@ static void bits_take_time(void) {
     EQ(made_here, 1);
     EQ(canbusd_receive(bus, to, &item), CANBUSD_OK);
     first = item.moment;
-    /* The frame has 44 bits, and at most one stuff bit for every four. */
+    /* The frame has 44 bits, plus at most one stuff bit for every four bits. */
     EQ(first >= 88 && first <= 110, 1);
     EQ(canbusd_run(bus, 100000, &made_here), CANBUSD_OK);
     EQ(made_here, 1);
@@ -269,8 +269,8 @@ static void limits_are_kept(void) {
     EQ(canbusd_send(bus, sockets[0], &frame, NULL), CANBUSD_NO_BUFFERS);
     frame.flags = CANBUSD_FDF;
     EQ(canbusd_send(bus, sockets[0], &frame, NULL), CANBUSD_FD_OFF);
-    /* The loop fills the record up to its limit of 80 entries. The calls above have entries too, except the opens of
-     * interface 16 and of UINT32_MAX. */
+    /* The loop fills the record up to its limit of 80 entries. The calls above have also added entries, except the
+     * opens of interface 16 and of UINT32_MAX. */
     for (i = 0; canbusd_attempt(bus, i, NULL) == CANBUSD_OK; i++)
         ;
     EQ(canbusd_attempt(bus, 99, NULL), CANBUSD_RECORD_FULL);
@@ -404,7 +404,7 @@ static void refused_calls_leave_their_results(void) {
     canbusd_free(bus);
 }
 
-/* Each code has its own text. */
+/* Each error code has a message that no other code has. */
 static void codes_have_their_texts(void) {
     uint32_t code, other;
     for (code = CANBUSD_OK; code <= CANBUSD_TOO_LONG; code++) {

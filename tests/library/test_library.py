@@ -1,4 +1,5 @@
-"""libcanbusd from C, C++ and Rust: its calls under sanitizers, its symbols, and the examples with CMake, meson and pkg-config."""
+"""libcanbusd from C, C++ and Rust: its calls with sanitizers, its symbols, and the examples with CMake, meson and
+pkg-config."""
 
 import os
 import re
@@ -50,7 +51,7 @@ def environment(prefix):
 
 
 def checked(source, to):
-    """Compiles a program with the static library, under sanitizers."""
+    """Compiles a program with the static library and with sanitizers."""
     checks = ["-D_GNU_SOURCE", "-g", "-O1", "-fsanitize=address,undefined", "-fno-sanitize-recover=all"]
     run("gcc", *STRICT, *checks, "-I", HEADER.parent, HERE / source, OUT / "libcanbusd.a", "-o", to)
     return to
@@ -62,18 +63,19 @@ def benches(tmp_path_factory):
 
 
 def test_calls_of_benches(benches):
-    """Benches refuse wrong calls and keep their state. Misuse is tested as far as it is defined."""
+    """Benches refuse invalid calls and keep their state. Misuse is tested only if its result is defined."""
     run(benches)
 
 
-# A bit rate by name of a bus exists only on the command line, so these cases are left out.
+# A bit rate for a bus by name is only possible on the command line, so these cases are left out.
 CASES = [case for case in named_cases() if "=" not in " ".join(case.values[0].words)]
 
 
 @pytest.mark.parametrize("step", (1, 1000000), ids=("line by line", "at once"))
 @pytest.mark.parametrize("case", CASES)
 def test_a_bench_puts_out_what_the_rules_give(benches, case, step):
-    """A bench of the library gives the expected output of each case in tests/bench, whether a call takes one line or all lines."""
+    """A bench of the library produces the expected output for each case in tests/bench, whether a call passes one line
+    or all lines."""
     found = dict(zip(case.words, case.words[1:]))
     names, _, script = case.words[-1].partition("@")
     words = [names, {"peers": 1}.get(found.get("--ack"), 0), found.get("--limit", 1000000)]
@@ -83,7 +85,7 @@ def test_a_bench_puts_out_what_the_rules_give(benches, case, step):
 
 
 def test_calls(tmp_path):
-    """Every call works under sanitizers, and so does misuse as far as it is defined. The audit accepts the record."""
+    """Every call works with sanitizers, and so does misuse if its result is defined. The audit accepts the record."""
     run(checked("calls.c", tmp_path / "calls"), tmp_path / "run.rec")
     program = os.environ.get("CANBUSD") or ROOT / "canbusd"
     assert re.fullmatch(r"ok \d+ entries\n", run(program, "audit", tmp_path / "run.rec"))

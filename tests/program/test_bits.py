@@ -46,7 +46,7 @@ def frames_of_all_kinds(count: int) -> Iterator[Frame]:
 
 
 def bits_of(*words: str) -> list[str]:
-    """Returns the lines that `canbusd bits` writes for these words."""
+    """Returns the lines that `canbusd bits` writes for these arguments."""
     status, output, errors = call(program(), "bits", *words)
     assert (status, errors) == (0, ""), words
     return output.splitlines()
@@ -57,7 +57,8 @@ def is_total(line: str) -> bool:
 
 
 def silence_of(frame: Frame, other: Frame) -> int | None:
-    """Returns the bit in which the sender of the other frame loses arbitration, or None if it does not lose."""
+    """Returns the index of the bit at which the sender of the other frame loses arbitration, or None if it does not
+    lose."""
     if arbitration_bits(frame) >= arbitration_bits(other):
         return None
     return next(place for place, (bit, its) in enumerate(zip(sent(frame).bits, sent(other).bits)) if bit != its)

@@ -1,4 +1,5 @@
-"""Tests the exact texts for refused words and for help, and for buses, scripts and addresses that can't be used."""
+"""Tests the exact messages for refused arguments, the help, and the messages for buses, scripts and addresses that
+can't be used."""
 
 import resource
 import socket
@@ -8,7 +9,7 @@ import pytest
 from commands import call, run_line
 from serving import program
 
-# Refused command lines. test_long_runs.py tests other refused words, and test_devices.py tests failing files and
+# Refused command lines. test_long_runs.py tests other refused arguments, and test_devices.py tests failing files and
 # streams.
 NO_JOB = [
     "",
@@ -74,7 +75,7 @@ NO_JOB = [
     "bench --faults can0@a can0",
     "serve --faults can0@a can0",
 ]
-# Command lines whose words are accepted, so that the report is about the bus.
+# Command lines whose arguments are accepted, so that the report is about the bus.
 A_JOB = [
     "bench --record run.rec --log /run.rec can0,can0",
     "bench --record run.rec --log a/run.rec can0,can0",
@@ -96,7 +97,7 @@ A_JOB = [
     "serve --record none --flush 60000 --sync can0,can0",
     "serve --record none --sessions 4294967295 can0,can0",
 ]
-# Refused words, and the beginning of the report on them.
+# Refused arguments, and the beginning of the report on them.
 REFUSED = [
     (
         "bench --bitrate 500000 --dbitrate 499999 can0",
@@ -223,7 +224,7 @@ HELP = [
     ("serve -h", "Serve clients on buses\n"),
     ("help serve", "Serve clients on buses\n"),
 ]
-# Words with a bus that is refused, and the complete report.
+# Arguments with a bus that is refused, and the complete report.
 NO_BUS = [
     ("bench can0,can0", "canbusd: bad bus\n  can0: this name is given twice\n"),
     ("bench a,b,can1,b@none", "canbusd: bad bus\n  b: this name is given twice\n"),
@@ -320,8 +321,8 @@ def test_buses_that_memory_is_too_small_for(line, note, tmp_path):
 
 
 def test_addresses_that_are_taken(tmp_path):
-    """For a port in use the report has a note. A file that is no socket stays, and so does a socket at which a program
-    listens."""
+    """If a port is in use, the report has a note. A file that is not a socket is not removed, and neither is a socket
+    on which a program listens."""
 
     def refused(address, note=""):
         errors = f"canbusd: cannot listen\n  {address}: Address already in use (os error 98)\n{note}"
@@ -340,7 +341,7 @@ def test_addresses_that_are_taken(tmp_path):
 
 
 def test_a_log_that_is_a_folder(tmp_path):
-    """A server whose log is a folder reports this at its end, and still writes its record."""
+    """A server whose log is a folder reports this when it exits, and still writes its record."""
     (tmp_path / "can0.log").mkdir()
     errors = "canbusd: cannot open ./can0.log\n  ./can0.log: Is a directory (os error 21)\n"
     listening = "listening ./lost\nbus can0 entries 0\n"

@@ -20,7 +20,7 @@ COMPLETIONS = os.path.join(TOOLS, "completions")
 # The completions run these tools to read their help.
 PATH = f"{TOOLS}:{os.environ['PATH']}"
 FILES = ["faults.script", "first.bench", "run.rec", "out.txt", "my faults.script", "logs/kept.rec"]
-# The typed text, and the text that the tab key adds.
+# The typed characters, and the characters that the tab key adds.
 TYPED = [
     ("canbusd ben", "ch "),
     ("canbusd bit", "s "),
@@ -67,8 +67,8 @@ TYPED = [
     ("canbusd serve --lo", ""),
     ("canbusd serve --str", ""),
 ]
-# The beginning of an option that takes a value, and the rest of the option's name. A shell adds its own sign after the
-# name.
+# The beginning of an option that takes a value, and the rest of the option's name. Each shell adds its own separator
+# after the name.
 OPTIONS = [
     ("canbusd bench --lo", "g"),
     ("canbusd bench --rec", "ord"),
@@ -98,7 +98,7 @@ def folder_of_files():
 
 
 class Shell:
-    """A shell at its own terminal. Ctrl-T shows the line that is being typed, and discards it."""
+    """A shell in a separate terminal. Ctrl-T shows the line that is being typed, and discards it."""
 
     def __init__(self, words, folder):
         try:
@@ -111,7 +111,7 @@ class Shell:
             os.execvpe(words[0], words, environment)
 
     def until(self, pattern):
-        """Waits for a text on the terminal that matches this pattern; returns the match."""
+        """Waits until the terminal shows output that matches this pattern; returns the match."""
         end, text = time.monotonic() + WAIT, ""
         while time.monotonic() < end:
             if select.select([self.terminal], [], [], 0.1)[0]:
@@ -125,7 +125,7 @@ class Shell:
         os.write(self.terminal, text.encode())
 
     def completed(self, typed):
-        """Types this text and the tab key; returns the line after that."""
+        """Types these characters and the tab key; returns the line after that."""
         self.write(typed + "\t\x14")
         return self.until("LINE\\[(.*?)\\]")[1].replace("\r\n", "")
 
@@ -136,12 +136,13 @@ class Shell:
 
 
 def typed_with(sign):
-    """Returns pairs of a typed text and the text that the tab key adds, in a shell that puts this sign after an option."""
+    """Returns pairs of typed characters and the characters that the tab key adds, for a shell that puts this separator
+    after an option."""
     return TYPED + [(typed, rest + sign) for typed, rest in OPTIONS]
 
 
 def completes(words, sign, *commands):
-    """Checks the completion of each line in a shell, after commands that prepare the shell."""
+    """Checks the completion of each line in a shell, after running commands that prepare the shell."""
     if not shutil.which(words[0]):
         pytest.skip(f"{words[0]} is not installed")
     with folder_of_files() as folder, contextlib.closing(Shell(words, folder)) as shell:

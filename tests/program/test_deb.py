@@ -1,8 +1,7 @@
-"""Tests the package that scripts/deb makes: what lintian reports, and in a clean Debian of each suite how apt installs
-the package, what it runs, and what it leaves.
-
-If the glibc of a suite is too old, apt must refuse the package. BASES names a folder with a debootstrap of each suite
-(debootstrap --variant=minbase); without BASES the tests make them.
+"""Tests the package that scripts/deb creates: what lintian reports, and, in a clean Debian of each suite, how apt
+installs the package, what the package runs, and what is left after its removal. If the glibc of a suite is too old, apt
+must refuse the package. BASES names a folder with a debootstrap of each suite (debootstrap --variant=minbase). Without
+BASES the tests create them.
 """
 
 import os
@@ -112,7 +111,7 @@ def try_program(debian):
     bench = "canbusd bench can0,can1@examples/last_bit.script <examples/last_bit.bench"
     assert debian.does("sh", "-c", f"cd /usr/share/doc/canbusd && {bench}") == expected("last_bit")
     debian.serves(0, "/tmp/served", "serve", "--listen", "./socket", "--out", ".", "can0")
-    # This is the command of contrib/Dockerfile, as its user and in its folder, but on a free port.
+    # This is the command from contrib/Dockerfile, run as its user and in its folder, but on a free port.
     with open(os.path.join(ROOT, "contrib", "Dockerfile"), encoding="utf-8") as file:
         recipe = file.read()
     words = re.search(r"^CMD \[(.*)\]$", recipe, re.M)[1].replace('"', "").replace(":29536", ":0").split(", ")
@@ -120,7 +119,7 @@ def try_program(debian):
 
 
 def try_tools(debian):
-    """Tests python-can and pytest with the package, makes the page of a run, and plays a log."""
+    """Tests python-can and pytest with the package, creates the page of a run, and plays a log."""
     debian.does(
         "apt-get", "install", "-qq", "-y", "--no-install-recommends", "python3", "python3-can", "python3-pytest"
     )
@@ -142,7 +141,7 @@ def try_unit(debian, folder):
 
 
 def traces(debian):
-    """Returns the files that the package left, except logs and caches."""
+    """Returns the files that the package left behind, except logs and caches."""
     kept = [debian.folder / place for place in ("tmp", "var/log", "var/cache", "proc", "sys")]
     found = [path for word in ("canbusd", "candump2bench") for path in debian.folder.rglob(f"*{word}*")]
     return [path for path in found if not any(place in path.parents for place in kept)]

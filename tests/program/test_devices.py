@@ -1,9 +1,7 @@
-"""Tests files and streams that fail, and what canbusd reports and writes then.
-
-Each file and stream of `bench`, `audit` and `serve` is, in turn, closed, full (/dev/full), a folder, missing,
-unreadable (/proc/self/mem), not text, endless, a pipe that nobody reads, or a file that may grow to only a few bytes.
-Each run must end with the first line that the manual page has for its fault. A fault of one file must leave the other
-files complete.
+"""Tests files and streams that fail, and what canbusd reports and writes in that case. Each file and stream of `bench`,
+`audit` and `serve` is, in turn, closed, full (/dev/full), a folder, missing, unreadable (/proc/self/mem), not text,
+endless, a pipe that nobody reads, or a file that may grow to only a few bytes. The first line that each run reports
+must be the one that the manual page lists for its fault. A fault in one file must not make the other files incomplete.
 """
 
 import contextlib
@@ -90,7 +88,7 @@ def test_input_of_a_bench():
 
 
 def test_output_of_a_bench(tmp_path):
-    """A bench reports an output that is closed, full, or a pipe that nobody reads, and makes no record."""
+    """A bench reports an output that is closed, full, or a pipe that nobody reads, and creates no record."""
     record = os.path.join(tmp_path, "run.rec")
     words = "bench", "--record", record, "can0,can1"
     with unread_pipe() as writer:
@@ -185,8 +183,8 @@ def test_log_of_a_bench(tmp_path):
 
 
 def may_grow(most, errors=None):
-    """Returns a function that limits the size of files to this many bytes; larger writes are refused. It may also
-    replace standard error by a pipe."""
+    """Returns a function that limits the size of files to `most` bytes; larger writes are refused. It can also replace
+    standard error with a pipe."""
 
     def begin():
         if errors is not None:
@@ -223,7 +221,7 @@ def test_file_of_an_audit():
 
 @contextlib.contextmanager
 def ended(*words, before=lambda folder: None, **how):
-    """Runs a server of two buses with two frames on the first bus, and ends it. Yields the server, its status, and its
+    """Runs a server with two buses and two frames on the first bus, and ends it. Yields the server, its status, and its
     output."""
     with serving_alone("--pace", "0", *words, "can0,can1", "can2", **how) as server:
         before(server.folder)
@@ -246,7 +244,7 @@ def whole(server, *names):
 
 
 def test_files_of_a_server():
-    """A fault of one file of a server, which is full or a folder, affects only this file."""
+    """If one file of a server is a folder or full, only this file is affected."""
     names = ["can0.log", "can0.rec", "can2.log", "can2.rec"]
     faults = {"can0.log": "log of can0: 0 whole lines", "can0.rec": "write fault", "can2.rec": "write fault"}
     for name in names:
@@ -273,8 +271,8 @@ def leave_old(folder):
 
 
 def test_logs_that_grow_to_a_limit():
-    """A log that reaches a size limit has only complete lines. The log of an earlier run stays, and the new log is next
-    to it."""
+    """A log that reaches a size limit contains only complete lines. The log of an earlier run is kept, and the new log
+    is next to it."""
     # The length of this line for a frame with a 29-bit identifier and 4 bytes: (SSSSSSSSSS.MMMMMM) can0
     # 00000000#00000001 and LF.
     line = 43
@@ -326,7 +324,7 @@ def test_output_of_a_server():
 
 
 def test_input_of_a_server():
-    """An input that is empty, a folder or unreadable ends a server with --until-eof. Without --until-eof the input is
+    """A server with --until-eof exits if its input is empty, a folder or unreadable. Without --until-eof the input is
     not read."""
     for path in ("/", UNREADABLE, "/dev/null"):
         file = os.open(path, os.O_RDONLY)
@@ -353,8 +351,7 @@ def test_a_full_standard_error_of_a_server(tmp_path):
 
 
 def test_addresses_of_a_server(server, tmp_path):
-    """A server refuses an address that is in a missing folder, is an existing file, is a port in use, or is not an
-    address."""
+    """A server refuses an address that is in a missing folder, an existing file, a port in use, or not an address."""
     there = tmp_path / "there"
     there.touch()
     taken = f"{server.host}:{server.port}"

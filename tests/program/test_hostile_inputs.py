@@ -1,9 +1,9 @@
 """Tests random and damaged inputs of `canbusd bench` and `audit`.
 
-Inputs are the examples, a record, and random bytes. Bytes, words and lines of them are changed, doubled, moved or cut.
-A run may end with status 0. It may also end with status 1 and one fault line that the manual page lists, followed by at
-most three lines of printable characters that begin with two spaces. A run may not be ended by a signal, take more than
-20 seconds, or write more than its input can ask for.
+The inputs are the examples, a record, and random bytes, in which bytes, words and lines are changed, doubled, moved or
+cut. A run may exit with status 0. It may also exit with status 1 and one fault line that the manual page lists,
+followed by at most three lines of printable characters that begin with two spaces. A run must not be ended by a signal,
+take more than 20 seconds, or write more than its input can request.
 """
 
 import glob
@@ -45,7 +45,7 @@ WORDS = [
 
 
 def changed(rng, text):
-    """Returns the text with a few bytes, words or lines changed."""
+    """Returns the input with a few bytes, words or lines changed."""
     for _ in range(rng.choice([1, 1, 2, 3, 8])):
         at, to = sorted(rng.randint(0, len(text)) for _ in range(2))
         kind = rng.randrange(7)
@@ -70,7 +70,7 @@ def changed(rng, text):
 
 
 def case(rng, inputs):
-    """Returns the command-line words and the input of a random run."""
+    """Returns the arguments and the input of a random run."""
     if rng.random() < 0.4:
         return ["audit", "/dev/stdin"], changed(rng, RECORD)
     words = ["bench", "--limit", str(rng.choice([1, 3, 50, 5000])), rng.choice(["can0", "can0,can1", "can0,can1,can2"])]
@@ -80,7 +80,7 @@ def case(rng, inputs):
 
 
 def fault_of(program, words, text):
-    """Runs the program; returns the forbidden behaviour of the run, or None."""
+    """Runs the program; returns what it did that is not allowed, or None."""
     try:
         with tempfile.TemporaryFile() as out:
             done = subprocess.run(
@@ -99,8 +99,8 @@ def fault_of(program, words, text):
 
 
 def test_inputs_of_bench_and_audit(program, rng, cases, tmp_path):
-    """The bench and the audit report faults of random inputs in the required form. Inputs for which they do not are
-    kept."""
+    """The bench and the audit report faults in random inputs in the required form. Inputs that cause other behaviour
+    are kept."""
     inputs = []
     for path in sorted(glob.glob(os.path.join(ROOT, "examples", "*.bench"))):
         with open(path, "rb") as file:

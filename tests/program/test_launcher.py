@@ -1,7 +1,6 @@
 """Tests the launcher ./canbusd in a copy of the repository whose dist/ fits its sources, and the installed launcher.
-
-The launcher is called from other folders, after changes of the sources, and in a copy that can't be written. Nothing is
-ever built: the command rt is not on the PATH, or only waits.
+The launcher is called from other folders, after changes to the sources, and in a copy that can't be written. Nothing is
+ever built: the command rt is either not on the PATH or replaced by one that only waits.
 """
 
 import contextlib
@@ -45,13 +44,13 @@ class Copy:
 
 
 def append(path, text):
-    """Appends a text to a file."""
+    """Appends a string to a file."""
     with open(path, "a", encoding="utf-8") as file:
         file.write(text)
 
 
 def archive_of_the_repository(folder):
-    """Makes copy.tar from the repository, with a program in dist/ that fits its sources."""
+    """Creates copy.tar from the repository, with a program in dist/ that fits its sources."""
     copy = folder / "copy"
     shutil.copytree(ROOT, copy, symlinks=True, ignore=shutil.ignore_patterns(".git", "out", "__pycache__"))
     shutil.copy(program(), copy / "dist" / "canbusd")
@@ -69,7 +68,7 @@ def copy(request, tmp_path):
 
 @pytest.fixture(scope="module")
 def launchers(request, tmp_path_factory):
-    """Returns links to a launcher in a copy and to an installed launcher."""
+    """Returns links to a launcher in a copy and to an installed launcher, by name."""
     folder = tmp_path_factory.mktemp("launchers")
     copy = Copy(request, folder)
     copy.make("install", f"PREFIX={folder}/a place/y")
@@ -84,7 +83,7 @@ def on_path(folder):
 
 
 def test_calls(copy, tmp_path):
-    """The launcher works in repeated calls, from other folders, through a link and on the PATH, and returns the
+    """The launcher works in repeated calls, from other folders, through a link and from the PATH, and returns the
     program's status.
     """
     assert [copy.status("./canbusd", "--version") for _ in range(2)] == [0, 0]
@@ -97,7 +96,7 @@ def test_calls(copy, tmp_path):
 
 
 def test_changed_source(copy):
-    """A program that was built from other sources is not run, whatever the time of the changed file."""
+    """A program that was built from other sources is not run, whatever the timestamp of the changed file is."""
     source = copy.folder / SOURCE
     text = source.read_text()
     assert copy.status("./canbusd", "--version") == 0
@@ -112,7 +111,7 @@ def test_changed_source(copy):
 
 @pytest.mark.skipif(not shutil.which("git"), reason="no git")
 def test_sources_after_those_of_dist(copy):
-    """If later commits changed the sources, the launcher shows a command that restores the sources that dist/ fits."""
+    """If later commits changed the sources, the launcher shows a command that restores the sources that match dist/."""
     commit = ["git", "-c", "user.name=n", "-c", "user.email=n@n.example", "commit", "-q", "-m"]
     for words in (["git", "init", "-q"], ["git", "add", "dist", "crates", "crates.txt"], [*commit, "dist"]):
         assert copy.status(*words) == 0, words
@@ -163,7 +162,7 @@ def test_few_file_descriptors(copy):
 
 
 def test_file_past_its_limit(copy):
-    """A file that would exceed its size limit is reported as a write fault, and SIGXFSZ does not end the program."""
+    """A file that would exceed its size limit is reported as a write fault, and SIGXFSZ does not terminate the program."""
     assert copy.status("./canbusd", "--version") == 0
     record = copy.folder.parent / "run.rec"
     done = copy.run("bash", "-c", f"ulimit -f 0; printf '' | ./canbusd bench --record '{record}' can0")
@@ -171,8 +170,8 @@ def test_file_past_its_limit(copy):
     assert not record.exists()
 
 
-# Texts to append to files that are not part of the program: files of another crate, a file of a proof, a new .edit
-# file, and a new crate in the list of crates.
+# Strings to append to files that are not part of the program: files of another crate, a proof file, a new .edit file,
+# and a new crate in the list of crates.
 OTHERS = {
     "crates/can_audit/src/lib.rt": "// a remark\n",
     "crates/can_audit/specs/Lib.antt": "-- a remark\n",
@@ -180,7 +179,7 @@ OTHERS = {
     "crates/can_confine/wrong/new.edit": "",
     "crates.txt": "# A remark.\ncan_new: can_bus canbusd\n",
 }
-# Texts to append to files of the program: a source file, a definition, a new definition, and a line of one of its
+# Strings to append to files of the program: a source file, a definition, a new definition, and a line in one of its
 # crates.
 OWN = {
     "crates/can_frame/src/lib.rt": "// a remark\n",
@@ -193,7 +192,7 @@ OWN = {
 @pytest.mark.parametrize("file", OTHERS)
 def test_what_makes_no_other_program(copy, file):
     """If a file outside the program changes, the program still fits its sources, both for the launcher and for a new
-    search."""
+    search of the sources."""
     assert copy.status("./canbusd", "--version") == 0
     append(copy.folder / file, OTHERS[file])
     assert copy.status("./canbusd", "--version") == 0
@@ -208,7 +207,7 @@ def test_what_makes_another_program(copy, file):
 
 
 def test_crates_of_the_program(copy):
-    """The list of crates has the program's own crate, its dependencies, and their dependencies."""
+    """The list of crates contains the program's own crate, its dependencies, and their dependencies."""
     listed = copy.run("scripts/program", "crates").stdout.split()
     assert listed[-1] == "canbusd" and {"can_frame", "can_bus", "can_server"} < set(listed)
     assert not {"can_audit", "hex", "clap"} & set(listed)
@@ -222,7 +221,7 @@ def test_damaged_program(copy):
 
 @pytest.mark.skipif(os.geteuid() == 0, reason="root may write everywhere")
 def test_folder_that_cannot_be_written(copy, tmp_path):
-    """If the folder can't be written, the launcher notes in the user's cache which program fits."""
+    """If the folder can't be written, the launcher records in the user's cache which program fits."""
     copy.run("chmod", "-R", "a-w", copy.folder)
     try:
         assert copy.status("./canbusd", "--version") == 0
@@ -236,7 +235,8 @@ def files_in(folder):
 
 
 def test_installed(copy, tmp_path):
-    """An installed program works by its path, through a link and on the PATH. After it is uninstalled nothing remains."""
+    """An installed program works by its path, through a link and from the PATH. After it is uninstalled nothing
+    remains."""
     place = tmp_path / "a place" / "y"
     copy.make("install", f"PREFIX={place}")
     launcher = place / "bin" / "canbusd"
@@ -266,8 +266,8 @@ def test_installed_off_the_path(copy, tmp_path):
 
 
 def test_installed_in_a_folder_of_the_user(copy, tmp_path):
-    """make install prints the PYTHONPATH that python3 needs, and nothing if it is set already. In PREFIX, ~ is the
-    user's folder.
+    """make install prints the PYTHONPATH that python3 needs, or nothing if it is set already. In PREFIX, ~ is the
+    user's home folder.
     """
     done = copy.run("make", "-s", "install", "PREFIX=~/a place")
     assert (done.returncode, done.stderr) == (0, ""), done
@@ -294,13 +294,13 @@ JOINED = "  names of a bus are joined by commas, without spaces: can0,can1\n"
         (["--listen", "127.0.0.1:99999", "can0"], LISTEN),
         (["--out", "nosuchdir", "can0"], "  --out is a folder that exists: mkdir 'nosuchdir'\n"),
         (["--out=nosuchdir", "can0"], "  --out is a folder that exists: mkdir 'nosuchdir'\n"),
-        # The launcher adds nothing to these messages of the program.
+        # The launcher adds nothing to these messages from the program.
         (["--listen", "/none/socket", "can0"], ""),
         (["--out", ".", "--listen", "127.0.0.1:0", "can0,can0"], ""),
     ],
 )
 def test_a_word_that_is_refused_is_followed_by_its_cure(launchers, tmp_path, words, said):
-    """The launcher adds a remedy to the program's message about a refused word."""
+    """The launcher adds a remedy to the program's message about a refused argument."""
     for launcher in launchers.values():
         done = subprocess.run(
             [launcher, "serve", *words],
@@ -347,7 +347,8 @@ def hang_up(_, client):
     client.close()
 
 
-# The ways in which a server ends: its words, its number of sessions, the action that ends it, and the expected status.
+# The ways in which a server ends: its arguments, its number of sessions, the action that ends it, and the expected
+# status.
 ENDS = {
     "Ctrl-C": ([], 10, functools.partial(to_all, signal.SIGINT), 0),
     "SIGINT": ([], 10, functools.partial(to_launcher, signal.SIGINT), 0),
@@ -365,7 +366,7 @@ ENDS = {
 
 
 def nobody_in(group):
-    """Returns whether a process group has no process any more."""
+    """Returns whether no process is left in a process group."""
     try:
         os.killpg(group, 0)
     except ProcessLookupError:
@@ -376,8 +377,8 @@ def nobody_in(group):
 @pytest.mark.parametrize("place", ["copy", "installed"])
 @pytest.mark.parametrize("end", ENDS)
 def test_end_of_a_server(launchers, place, end):
-    """A server that ends leaves no process. Except after SIGQUIT it leaves the record of its session's `open` and
-    `close`."""
+    """A server that ends leaves no process. Except after SIGQUIT it leaves a record with the `open` and `close` of its
+    session."""
     words, sessions, ends, wanted = ENDS[end]
     words = ["--sessions", str(sessions), *words, "can0"]
     with serving(*words, launcher=launchers[place], stdin=subprocess.PIPE) as server:
@@ -414,7 +415,8 @@ WRONG = [
 
 @pytest.mark.parametrize("words", WRONG)
 def test_wrong_words_of_serve(launchers, words):
-    """For wrong words the launcher's messages are the program's, and do not show the option that the launcher adds."""
+    """For wrong arguments the launcher prints the same messages as the program, without the option that the launcher
+    adds."""
     said = []
     for command in (launchers["copy"], launchers["installed"], program()):
         done = subprocess.run([command, "serve", *words.split()], capture_output=True, text=True, check=False)

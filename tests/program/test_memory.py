@@ -1,12 +1,12 @@
-"""Tests canbusd when it is refused memory, at one place after another.
+"""Tests canbusd when one request for memory after another is refused.
 
 refuse_memory.c, compiled with cc and preloaded, refuses the n-th request for memory or start of a thread, for each n:
-either only this request, or this one and all later ones. A bench must end with `no memory` after whole lines of its
-output, or report it to a session. In the second case its output and its record are those of an input without the
-refused command. An audit gives its usual reply or says `no memory`. If crates/can_memory_tests is built, it makes each
-call of the libraries: a refused call must change nothing, and return the usual result when it is repeated. A server
-that is refused memory fails only one session: other sessions get their frames, and the record that it writes at its end
-is legal. Finally, the program runs with more and more memory, limited by RLIMIT_AS.
+either only this request, or this one and all later ones. A bench must either exit with `no memory` after complete lines
+of its output, or report the refusal to a session. In the second case its output and its record must be those of an
+input without the refused command. An audit returns its usual reply or says `no memory`. If crates/can_memory_tests is
+built, it performs every call of the libraries: a refused call must change nothing, and return the usual result when it
+is repeated. If a server is refused memory, only one session fails: other sessions get their frames, and the record that
+the server writes when it ends is legal. Finally, the program runs with more and more memory, limited by RLIMIT_AS.
 """
 
 import contextlib
@@ -28,15 +28,15 @@ pytestmark = pytest.mark.skipif(not shutil.which("cc"), reason="no C compiler: c
 needs_live = pytest.mark.skipif("not writes_live()", reason="the program is older than `serve --record`")
 
 FOREVER = 2**64 - 1
-# No tested run asks for memory more often than this or needs more bytes than this.
+# No tested run requests memory more often than this or needs more bytes than this.
 MOST_PLACES, MOST_BYTES = 5000, 1 << 34
 # A program that calls each library function that needs memory.
 CALLS = os.path.join(ROOT, "crates", "can_memory_tests", "out", "can_memory_tests")
 NO_MEMORY = "canbusd: no memory\n"
-# The standard error of a program that was refused memory: the fault, and perhaps a remedy.
+# The standard error of a program that was refused memory: the fault, perhaps followed by a remedy.
 REFUSED = re.compile(r"canbusd: no memory\n(  [ -~]+\n)*")
 SAYS_NO_MEMORY = "< error no memory >"
-# A command without effect, which replaces a command that is refused memory.
+# A command without effect, which replaces a command that was refused memory.
 UNKNOWN, SAYS_UNKNOWN = "< nothing >", "< error unknown command >"
 TAKES_MEMORY = re.compile(r"< *(?:open|rawmode|filter)\b[^<>]*>")
 
@@ -66,17 +66,18 @@ class Refusing:
         self.environment = {**os.environ, "LD_PRELOAD": str(library), "REFUSE": str(plan)}
 
     def asked(self):
-        """Returns how often the program has asked for memory."""
+        """Returns how often the program has requested memory."""
         return struct.unpack("=Q", self.plan[:8])[0]
 
     def refuse(self, first, last, asked=0):
-        """Sets the count of requests to `asked`, and refuses those from number `first` to number `last`."""
+        """Sets the count of requests to `asked`, and refuses requests `first` to `last`."""
         self.plan[8:] = struct.pack("=2Q", 1, 0)
         self.plan[:8] = struct.pack("=Q", asked)
         self.plan[8:] = struct.pack("=2Q", first, last)
 
     def refuse_soon(self, first, last):
-        """Refuses the requests from `first` to `last`, counted from now on; returns the total number of the first one."""
+        """Refuses the requests from `first` to `last`, counted from now on. Returns the index of the first one, counted
+        from the start of the program."""
         asked = self.settled()
         self.plan[8:] = struct.pack("=2Q", asked + first, min(asked + last, FOREVER))
         return asked + first
@@ -85,12 +86,13 @@ class Refusing:
         self.plan[8:] = struct.pack("=2Q", 1, 0)
 
     def settled(self):
-        """Waits until the server rests; returns how often it has asked for memory."""
+        """Waits until the server is idle; returns how often it has requested memory."""
         assert come_true(self.server.rests), "the server does not come to rest"
         return self.asked()
 
     def run(self, words, text="", first=1, last=0, most=resource.RLIM_INFINITY, other=None):
-        """Runs the program with this input and this much memory; returns its result, and how often it asked for memory."""
+        """Runs the program with this input and this memory limit; returns its result, and how often it requested
+        memory."""
         self.refuse(first, last)
         done = subprocess.run(
             [other or program(), *words],
@@ -101,7 +103,7 @@ class Refusing:
             check=False,
             cwd=self.folder,
             env=self.environment,
-            # If there is a preexec function, Python copies itself for each run.
+            # With a preexec function, Python forks itself for each run.
             preexec_fn=None if most == resource.RLIM_INFINITY else within(most),
         )
         assert done.returncode in (0, 1, 2), f"status {done.returncode} at {first}: {done.stderr}"
@@ -114,13 +116,13 @@ def within(most):
 
 
 def places():
-    """Yields the number of each request for memory, until the caller leaves its loop."""
+    """Yields the index of each request for memory, until the caller leaves its loop."""
     yield from range(1, MOST_PLACES)
     pytest.fail(f"it asks for memory more than {MOST_PLACES} times")
 
 
 def windows(asked):
-    """Returns two ranges for each request: only this request, and this request and all later ones."""
+    """Returns two ranges for each request: one with only this request, and one with this request and all later ones."""
     return [(first, last) for first in range(1, asked + 1) for last in (first, FOREVER)]
 
 
@@ -133,7 +135,7 @@ class Bench:
         self.line = ["bench", "--record", "run.rec", *words]
         assert "error unknown command" not in self.runs(text)[0], "this input has unknown commands"
         self.commands = [found.span() for found in TAKES_MEMORY.finditer(text)]
-        # The results of the program if one of these commands is refused memory.
+        # The results that are possible if one of these commands is refused memory.
         self.refused = {self.refuses(command) for command in self.commands}
         self.ample = self.runs(text)
 
@@ -145,7 +147,7 @@ class Bench:
         return done.stdout, self.written(), done.returncode, done.stderr
 
     def refuses(self, command):
-        """Returns the results if this command has no effect and its reply reports refused memory."""
+        """Returns the results if this command has no effect and its reply reports that memory was refused."""
         begin, end = command
         output, *others = self.runs(self.text[:begin] + UNKNOWN + self.text[end:])
         return output.replace(SAYS_UNKNOWN, SAYS_NO_MEMORY), *others
@@ -157,7 +159,7 @@ class Bench:
         return None
 
     def try_at(self, first, last, most=resource.RLIM_INFINITY):
-        """Refuses memory to the bench; returns whether a session, the program or nobody reported it."""
+        """Refuses memory to the bench. Returns whether a session or the program reported it, or neither."""
         with contextlib.suppress(FileNotFoundError):
             os.remove(self.record)
         done, _ = self.refusing.run(self.line, self.text, first, last, most)
@@ -174,7 +176,7 @@ class Bench:
         output = done.stdout.split(SAYS_NO_MEMORY)[0] if last == FOREVER else done.stdout
         assert self.ample[0].startswith(output), f"at {first}: {done.stdout}"
         assert done.stdout == "" or done.stdout.endswith("\n"), f"a line is cut at {first}: {done.stdout}"
-        # If the record's own memory was refused, the file may have only part of the record.
+        # If memory for writing the record was refused, the file may contain only part of the record.
         assert (
             last == FOREVER or not did[1] or self.ample[1].startswith(did[1]) and did[1] != self.ample[1]
         ), f"at {first}: another record: {did[1]}"
@@ -182,7 +184,7 @@ class Bench:
 
 
 def try_everywhere(bench):
-    """Refuses memory to a bench at each place; returns how often each outcome occurred."""
+    """Refuses memory to a bench at each request in turn; returns how often each outcome occurred."""
     outcomes = {}
     for first, last in windows(bench.asked):
         how = bench.try_at(first, last)
@@ -191,7 +193,7 @@ def try_everywhere(bench):
 
 
 def summed(runs):
-    """Returns the summed counts of several runs as a text."""
+    """Returns the summed counts of several runs as a string."""
     sums = {}
     for outcomes in runs:
         for how, count in outcomes.items():
@@ -199,7 +201,7 @@ def summed(runs):
     return ", ".join(f"{count} {how}" for how, count in sorted(sums.items()))
 
 
-# Each command that takes memory, and between them commands that show whether it was carried out. There are also a long
+# Every command that needs memory, and between them commands that show whether it was carried out. There are also a long
 # message and an unknown name.
 COMMANDS = (
     """session 1
@@ -230,7 +232,7 @@ end 3
 
 
 def example(path):
-    """Returns the command-line words and the input of an example."""
+    """Returns the arguments and the input of an example."""
     with open(path, encoding="utf-8") as file:
         text = file.read()
     words = re.search(r"\./canbusd bench (.*) < examples/", text)[1]
@@ -239,8 +241,8 @@ def example(path):
 
 @pytest.mark.slow
 def test_a_bench_without_memory(refusing):
-    """A bench that is refused memory reports it correctly, for each example and for an input with each command that
-    takes memory.
+    """A bench that is refused memory reports it correctly, for every example and for an input with every command that
+    needs memory.
     """
     inputs = [example(path) for path in sorted(glob.glob(os.path.join(ROOT, "examples", "*.bench")))]
     inputs += [(["can0,can1"], COMMANDS), (["--report", "--ack", "peers", "--limit", "12", "can0,can1"], COMMANDS)]
@@ -250,8 +252,8 @@ def test_a_bench_without_memory(refusing):
 
 @pytest.mark.slow
 def test_faults_without_memory(refusing):
-    """For wrong lines, scripts, names and words a program without memory reports `no memory` or at least the first line
-    of the usual report."""
+    """For wrong lines, scripts, names and arguments, a program without memory reports `no memory` or at least the first
+    line of the usual report."""
     folder = refusing.folder
     scripts = {"line": "0 good\nx\n", "name": "5 local crc can2\n", "twice": "5 good\n5 good\n"}
     for name, text in scripts.items():
@@ -374,7 +376,8 @@ def test_calls_without_memory(refusing):
         assert (done.returncode, done.stdout, done.stderr) == (0, ample.stdout, ""), f"at {place}: {done}"
 
 
-# A client's messages, each with its answer if the server gets all its memory. None means several texts in any order.
+# A client's messages, each with its answer if the server gets all its memory. None stands for several messages in any
+# order.
 SAYS = [
     ("< open can2 >", "< ok >"),
     ("< rawmode >", "< ok >"),
@@ -389,8 +392,8 @@ SAYS = [
 
 
 def converse(server, refusing):
-    """Sends these messages, and repeats with memory each message that is answered by `no memory`. Returns what happened
-    to the session."""
+    """Sends these messages. If the reply to a message is `no memory`, sends the message again with memory available.
+    Returns what happened to the session."""
     with contextlib.closing(Plain(server)) as client:
         try:
             greeting = client.text()
@@ -469,7 +472,8 @@ def hears(sender, listener):
 
 
 def test_deliveries_without_memory(refusing):
-    """A listener gets its frames even if other sessions are refused memory, because a receive takes no memory."""
+    """A listener gets its frames even if other sessions are refused memory, because receiving a frame requires no
+    memory."""
     outcomes = {}
     for place in places():
         refusing.stop()
@@ -496,14 +500,14 @@ def test_deliveries_without_memory(refusing):
 
 def why_not(fault, others=()):
     """Returns the reason why a server does not listen, and checks the form of its report. `others` are further reasons
-    that are accepted."""
+    that are allowed."""
     reported = re.fullmatch(rf"canbusd: ({'|'.join(['no memory', 'cannot listen', *others])})(\n  [ -~]*)*", str(fault))
     assert reported, f"{fault}"
     return reported[1]
 
 
 def greets(server):
-    """Returns whether a server that listens has served a session, or had no memory for it."""
+    """Connects to a server that listens. Returns whether the server served the session, or had no memory for it."""
     with contextlib.suppress(ConnectionError), contextlib.closing(Plain(server)) as client:
         if client.text() == "< hi >":
             return "served"
@@ -511,9 +515,9 @@ def greets(server):
 
 
 def refused_at_each_place(tried):
-    """Refuses memory at one request, and from that request on, until no try makes that many requests; prints how often
-    each outcome occurred. `tried` gets the first and the last refused request. It returns its outcome, and whether it
-    made fewer requests."""
+    """Refuses memory at one request only, and from that request onwards, for each request until a try makes fewer
+    requests. Prints how often each outcome occurred. `tried` is called with the first and the last refused request. It
+    returns the outcome, and whether fewer requests were made."""
     outcomes = {}
     for place in places():
         for last in (FOREVER, place):
@@ -525,8 +529,8 @@ def refused_at_each_place(tried):
 
 
 def start(refusing, place, last, ended, *words, reasons=()):
-    """Starts a server that is refused memory. Returns the reason why it does not listen, or the result of `ended`.
-    Returns also whether the start made fewer than `place` requests."""
+    """Starts a server that is refused memory. Returns the reason why it does not listen, or the result of `ended`. Also
+    returns whether the start made fewer than `place` requests."""
     refusing.refuse(place, last)
     try:
         with refused_server(refusing, *words) as server:
@@ -538,7 +542,7 @@ def start(refusing, place, last, ended, *words, reasons=()):
 
 
 def test_a_start_without_memory(refusing):
-    """A server that is refused memory at its start reports this and ends, or serves."""
+    """A server that is refused memory at its start either reports this and exits, or serves clients."""
 
     def ended(server, how):
         status, _ = server.finish()
@@ -550,7 +554,7 @@ def test_a_start_without_memory(refusing):
 
 
 def test_an_end_without_memory(refusing):
-    """If a file is refused memory at the end of a server, this is reported, and the other files are complete."""
+    """If a file is refused memory when a server ends, this is reported, and the other files are complete."""
 
     def tried(place, last):
         with refused_server(refusing) as server:
@@ -584,8 +588,8 @@ def files_at_the_end(server, status, written):
 
 @needs_live
 def test_a_start_of_a_long_run_without_memory(refusing):
-    """A server that writes its record while it runs, and is refused memory at its start, reports this and ends, or
-    serves."""
+    """A server that writes its record while it runs, and is refused memory at its start, either reports this and exits,
+    or serves clients."""
 
     def ended(server, how):
         status, written = server.finish()
@@ -660,8 +664,8 @@ def least(words):
 
 
 def test_a_bench_within_ever_more_memory(refusing):
-    """A bench with a limit on its memory (RLIMIT_AS) reports `no memory` or works as usual. The limit increases from
-    what `--version` needs."""
+    """A bench with a limit on its memory (RLIMIT_AS) reports `no memory` or works as usual. The limit starts at the
+    amount that `--version` needs and increases."""
     bench, outcomes = Bench(refusing, ["--limit", "200000", "can0,can1"], COMMANDS), {}
     for most in amounts(least(["--version"])):
         how = bench.try_at(1, 0, most)
@@ -672,8 +676,8 @@ def test_a_bench_within_ever_more_memory(refusing):
 
 
 def test_a_server_within_ever_more_memory():
-    """A server with an increasing limit on its memory (RLIMIT_AS) serves all or some of ten sessions, or reports `no
-    memory`."""
+    """A server with an increasing limit on its memory (RLIMIT_AS) serves all of ten sessions or some of them, or
+    reports `no memory`."""
     outcomes = {}
     for most in amounts(least(["--version"])):
         try:

@@ -1,7 +1,6 @@
-"""Definitions and clauses are readable: a reader has to trust the definitions that contracts cite, so their lines are short.
-
-A line has at most 120 characters in specs/ of a crate, and 100 in a clause of the sources. A definition has at most 25 lines,
-except for tables that have a line for each case.
+"""Definitions and clauses are readable: a reader has to trust the definitions that contracts cite, so their lines are
+short. A line has at most 120 characters in the specs/ folder of a crate, and 100 in a clause in the sources. A
+definition has at most 25 lines, except for tables with one line per case.
 """
 
 import glob
@@ -14,7 +13,7 @@ from serving import ROOT
 CRATES = os.path.join(ROOT, "crates")
 DEFINITION = re.compile(r"(?:(?:abbrev|unfoldable)(?: pub)?|pub data|pub record) (\S+)")
 CLAUSE = re.compile(r"\s*(?:requires|ensures|ghost (?!use ))")
-# These tables have a line for each case, field or step.
+# These tables have one line for each case, field or step.
 TABLES = {"Headline", "arguments_of", "cause_text", "entry_in", "named"}
 
 

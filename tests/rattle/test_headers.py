@@ -1,7 +1,6 @@
-"""The numbers that the definitions and the code take from Linux equal those of the installed headers.
-
-Frames, masks and filters use these numbers in various ways, so the test lists the texts. Error message frames use the names of
-linux/can/error.h, in the definitions and in the code. There, a mask of n bits is the limit 2 ^ n.
+"""The numbers that the definitions and the code take from Linux equal those in the installed headers. Frames, masks and
+filters use these numbers in various ways, so the test lists the exact strings. Error message frames use the names in
+linux/can/error.h, in the definitions and in the code. There, a mask of n bits is written as the limit 2 ^ n.
 """
 
 import os
@@ -15,7 +14,7 @@ from serving import ROOT
 
 HEADERS = ["linux/can.h", "linux/can/raw.h", "linux/can/error.h"]
 COMPILER = shutil.which(os.environ.get("CC", "gcc"))
-# For each constant, the number in canbusd and the texts that use it.
+# For each constant, the number in canbusd and the strings in which it is used.
 USES = [
     ("CAN_EFF_FLAG", 0x80000000, "can_frame/specs/Frames.antt", "f.id.extended then 2 ^ 31"),
     ("CAN_EFF_FLAG", 0x80000000, "can_frame/src/frame.rt", "0x8000_0000"),
@@ -77,20 +76,20 @@ def headers(tmp_path_factory):
 
 @pytest.mark.parametrize("name, number, path, text", USES)
 def test_frames_and_filters(headers, name, number, path, text):
-    """The number equals that of the headers, and the file contains the text."""
+    """The number equals the one in the headers, and the file contains the string."""
     assert headers.get(name, number) == number
     assert text in read(path)
 
 
 @pytest.mark.parametrize("ours", [in_code(), in_definitions()], ids=["code", "definitions"])
 def test_error_message_frames(headers, ours):
-    """Each number equals that of the headers, unless the headers lack it."""
+    """Each number equals the one in the headers, unless the headers lack it."""
     assert len(ours) >= 20
     wrong = {name: number for name, number in ours.items() if headers.get(name, number) != number}
     assert not wrong
 
 
 def test_definitions_are_those_of_the_code():
-    """The definitions and the code have the same numbers by the same names."""
+    """The definitions and the code have the same numbers under the same names."""
     code, definitions = in_code(), in_definitions()
     assert {name: code.get(name) for name in definitions} == definitions

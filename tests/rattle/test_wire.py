@@ -1,7 +1,6 @@
-"""The bits of frames on the wire: the model that canbusd's numbers come from, and the places that use these numbers.
-
-The model agrees with catalogues of CRCs, with long division, and with the smallest and largest number of bits that the fields of a
-frame allow. The tests of can_unit_tests and the laws of can_wire have the model's numbers.
+"""The bits of frames on the wire: the model from which canbusd's numbers come, and the files that use these numbers.
+The model agrees with catalogues of CRCs, with long division, and with the smallest and largest number of bits that the
+fields of a frame allow. The tests in can_unit_tests and the laws in can_wire use the model's numbers.
 """
 
 from __future__ import annotations
@@ -64,7 +63,7 @@ def test_stuffed_bits() -> None:
 
 
 def test_tables() -> None:
-    """The random frames in the tests have the model's numbers of bits."""
+    """The random frames in the tests have the numbers of bits that the model computes."""
     text = read("tests", "rattle", "can_unit_tests", "tests", "wire.rtt")
     classic = re.findall(r'\("([0-9A-FR#]+)", (\d+)\),', text)
     for frame, nominal in classic:
@@ -76,7 +75,7 @@ def test_tables() -> None:
 
 
 def test_known_frames() -> None:
-    """The frames of the law have the model's bits."""
+    """The frames in the law have the bits that the model computes."""
     law = read("crates", "can_wire", "src", "laws.rt").split("known_frames_have_their_bits")[1].split("{}")[0]
     texts = re.findall(r"low_bits (\d+) 0x([0-9A-F]+)", law)
     assert [number_bits(int(number, 16), int(count)) for count, number in texts] == [

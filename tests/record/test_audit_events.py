@@ -13,8 +13,8 @@ import pytest
 from commands import run_line
 from serving import WAIT, program
 
-# Two interfaces that report faults. Sockets 0 and 1 ask for error message frames. Socket 0 has plenty of room, and
-# socket 1, at interface 1, has room for one item. Socket 2, also at interface 1, asks for no error message frames.
+# Two interfaces that report faults. Sockets 0 and 1 request error message frames. Socket 0 has plenty of room, and
+# socket 1, at interface 1, has room for one item. Socket 2, also at interface 1, requests no error message frames.
 RECORD = """canbus record 1
 bus 2 always 0003 10 100
 open 0 256 = socket 0
@@ -29,8 +29,8 @@ receive 2 = data 0 0 123#01FF 0.000002
 attempt 0.000003 good = idle
 end 10
 """
-# The first attempt raises the transmitter's count to 8 and the receiver's count to 1; the good attempt lowers each by
-# 1. Its error message frame takes the only place in socket 1.
+# The first attempt raises the transmitter's count to 8 and the receiver's count to 1. The good attempt lowers each
+# count by one. The error message frame for the first attempt takes the only free entry in the queue of socket 1.
 FAULT = "; counts 0 8 0; counts 1 0 1; put 0:20000088#0000810A00000000 1:20000088#0000040000000000"
 DONE = "; counts 0 7 0; counts 1 0 0; put 2; dropped 1:1"
 EVENTS = (
@@ -40,14 +40,14 @@ EVENTS = (
 )
 # The same events at 500,000 bit/s. Up to its last data bit, 123#01FF has 35 bits and 3 stuff bits. The bit error is
 # followed by an error flag of 6 bits, 6 bits of the other interface's flag, a delimiter of 8 bits and an intermission
-# of 3 bits. A complete frame also has 15 bits of CRC, 2 stuff bits and 10 bits up to the end of frame, 65 bits in all,
-# and an intermission after it.
+# of 3 bits. In a complete frame, 15 bits of CRC, 2 stuff bits and 10 bits up to the end of frame follow the data. That
+# is 65 bits in all, followed by an intermission.
 TIMED = EVENTS.replace(f"{FAULT}\n", f"{FAULT}; wire 130000 122000 65 0\n").replace(
     f"{DONE}\n", f"{DONE}; wire 130000 136000 65 0\n"
 )
-# An FD frame with 8 bytes 00 and the bit rate switch. At the nominal bit rate it has 17 bits up to its BRS bit and 10
-# bits after its CRC. At the other bit rate it has ESI, 4 bits of length, 64 bits of data, 13 stuff bits, and 27 bits of
-# stuff count, CRC and fixed stuff bits.
+# An FD frame with eight zero bytes and the bit rate switch. At the nominal bit rate it has 17 bits up to its BRS bit
+# and 10 bits after its CRC. At the data bit rate it has ESI, 4 bits of length, 64 bits of data, 13 stuff bits, and 27
+# bits of stuff count, CRC and fixed stuff bits.
 SWITCHED = """canbus record 5
 bus 1 always 0000 10 100 0
 open 0 256 = socket 0
@@ -56,7 +56,7 @@ send 0 124##10000000000000000 = number 0
 attempt 0.000001 good = tried 0 0 124##10000000000000000 done 0000 0000
 end 4
 """
-# After 31 destroyed attempts a transmitter's count is 248. The next attempt takes its interface to bus off, and the
+# After 31 destroyed attempts the transmitter's count is 248. The next attempt takes its interface to bus off, and the
 # waiting frames are lost. The call `restart` ends bus off.
 FAULTS = "".join(
     f"attempt 0.0000{number:02} global-bit = tried 0 0 123# destroyed 0000 0000\n" for number in range(1, 32)
@@ -75,18 +75,18 @@ end 38
 
 
 def audited(record, folder, *options):
-    """Audits this record with events; returns the status, the output and the errors."""
+    """Audits this record and requests its events; returns the status, the output and the errors."""
     (folder / "run.rec").write_text(record)
     return run_line(" ".join(["audit", "--events", *options, "run.rec"]), cwd=folder)
 
 
 def front(text, lines):
-    """Returns the first lines of a text."""
+    """Returns the first `lines` lines of a string."""
     return "".join(text.splitlines(True)[:lines])
 
 
 def test_each_kind_of_part(tmp_path):
-    """Event lines have parts for counts, for queued items, and for items without room."""
+    """Event lines have parts for changed counts, for queued items, and for items without room in the queue."""
     assert audited(RECORD, tmp_path) == (0, EVENTS, "")
     assert audited(RECORD, tmp_path, "--cut") == (0, EVENTS, "")
 
@@ -155,7 +155,7 @@ def test_a_record_that_is_cut_off(tmp_path):
     ],
 )
 def test_before_a_fault(old, new, lines, tmp_path):
-    """The events before a fault are written, and the fault is the same as that of an audit without events."""
+    """The events before a fault are written, and the fault is reported as by an audit without events."""
     record = RECORD.replace(old, new)
     status, written, errors = audited(record, tmp_path)
     assert (status, "", errors) == run_line("audit run.rec", cwd=tmp_path) and status == 1
@@ -164,22 +164,22 @@ def test_before_a_fault(old, new, lines, tmp_path):
 
 
 def test_a_wrong_entry_before_a_wrong_line(tmp_path):
-    """If a malformed line follows a wrong entry, the line is reported, but only the events before the wrong entry are
-    written."""
+    """If a malformed line follows a wrong entry, the malformed line is reported, but only the events before the wrong
+    entry are written."""
     record = RECORD.replace("done 0002 0000", "done 0000 0000").replace("receive 2 = data", "receive 2 = date")
     status, written, errors = audited(record, tmp_path)
     assert (status, written) == (1, front(EVENTS, 9)) and errors.startswith("canbusd: line 11: bad line\n")
 
 
 def test_several_files(tmp_path):
-    """Several files are audited as one text, even if a file ends within a line."""
+    """Several files are audited as one record, even if a file ends in the middle of a line."""
     (tmp_path / "a.rec").write_text(RECORD[:333])
     (tmp_path / "b.rec").write_text(RECORD[333:])
     assert run_line("audit --events a.rec b.rec", cwd=tmp_path) == (0, EVENTS, "")
 
 
 def test_a_record_that_is_followed():
-    """The events of lines that are written to a pipe come before the pipe ends."""
+    """The events of lines that are written to a pipe are written before the pipe is closed."""
     words = [program(), "audit", "--events", "--cut", "/dev/stdin"]
     pipes = {"stdin": subprocess.PIPE, "stdout": subprocess.PIPE}
     with subprocess.Popen(words, bufsize=0, **pipes) as running:
@@ -194,7 +194,7 @@ def test_a_record_that_is_followed():
 
 
 def test_a_writer_that_fails(tmp_path):
-    """An audit whose output is refused ends at once with a write fault, and does not write the output later."""
+    """If its output can't be written, an audit exits at once with a write fault, and does not write the output later."""
     (tmp_path / "run.rec").write_text(RECORD)
     with open("/dev/full", "wb") as full:
         words = [program(), "audit", "--events", "run.rec"]

@@ -1,8 +1,6 @@
-"""Tests which rule gave each attempt its verdict, by `canbusd audit --events --faults`.
-
-There are tests of a run by hand, of each property that decides the rule, of the report on each kind of wrong faults
-file, and of random runs and files, which are compared with rule_model.py. test_memory.py refuses memory to this
-command.
+"""Tests which rule gave each attempt its verdict, as `canbusd audit --events --faults` reports it. There are tests of a
+hand-written run, of each property that decides which rule applies, of the report on each kind of wrong faults file, and
+of random runs and files, which are compared with rule_model.py. test_memory.py refuses memory to this command.
 """
 
 import subprocess
@@ -18,8 +16,9 @@ from serving import WAIT, program
 from timed_benches import random_rates, rate_options
 
 NAMES = "ecu,tester"
-# Rules 1 and 2 apply from the start, although a line of the run is between them. Rule 3 is given before attempt 3.
-# Rules 2 and 3 are ended before attempt 4. Rule 4 is given before attempt 5, the first attempt after two idle ones.
+# Rules 1 and 2 apply from the start, although a line with a change during the run is between them. Rule 3 is given
+# before attempt 3. Rules 2 and 3 are ended before attempt 4. Rule 4 is given before attempt 5, the first attempt after
+# two idle ones.
 FAULTS = """# of an afternoon
 next 1 from ecu lastbit
 1 global bit
@@ -37,8 +36,8 @@ send 0 123# = number 1
 send 0 123# = number 2
 """
 # Each attempt with its parts. Rule 2 skips attempt 2, because rule 1 decided attempt 0 and the numbered line decided
-# attempt 1. Attempt 3 shows that rule 2 is asked before rule 3. In attempt 6 rule 4 says good but the record has
-# another verdict, so the line names no rule; rule 4 is used up all the same.
+# attempt 1. Attempt 3 shows that rule 2 comes before rule 3. In attempt 6 the verdict of rule 4 is good but the record
+# has another verdict, so the line names no rule; rule 4 is used up all the same.
 ATTEMPTS = """attempt 0.000000 lastbit = tried 0 0 123# lastbit 0002 0000; counts 0 8 0; rule 1
 attempt 0.000001 global-bit = tried 0 0 123# destroyed 0000 0000; counts 0 16 0; counts 1 0 1
 attempt 0.000002 good = tried 0 0 123# done 0002 0000; counts 0 15 0; counts 1 0 0
@@ -52,8 +51,8 @@ attempt 0.000007 good = tried 0 3 124# done 0002 0000; counts 0 12 0; rule 4
 attempt 0.000008 lastbit = tried 0 4 124# lastbit 0002 0000; counts 0 20 0
 attempt 0.000009 good = tried 0 4 124# done 0002 0000; counts 0 19 0
 """
-# Where the bus accepted the rules: the script's two rules after the line of the bus, and the other rules before their
-# attempts.
+# Where the bus accepted the rules: the script's two rules after the line about the bus, and the other rules before
+# their attempts.
 TOLD = {
     "open 0 ": "rule 1 next 1 from ecu lastbit\nrule 2 always id 123 skip 1 good\n",
     "attempt 0.000003 ": "rule 3 next 1 global form\n",
@@ -117,7 +116,7 @@ def test_without_a_rule(tmp_path):
     ],
 )
 def test_words_of_a_rule(tmp_path, rule, words):
-    """A rule is written with as few words as possible, and with names in the order of the bus."""
+    """A rule is written with as few words as possible, and with names in the order of the interfaces."""
     status, written, errors = audited(tmp_path, rule)
     assert (status, errors) == (0, "") and written.splitlines()[2] == f"rule 1 {words}"
     assert audited(tmp_path, words)[1] == written
@@ -126,7 +125,8 @@ def test_words_of_a_rule(tmp_path, rule, words):
 @pytest.mark.parametrize(
     "faults, rules",
     [
-        # The first rule that matches the sender and the frame decides. Attempts 0, 1 and 6 match no rule with `good`.
+        # The first rule that matches the sender and the frame decides. Attempts 0, 1 and 6 do not match a rule with
+        # `good`.
         ("always good\nalways good", ["1", "1", "1", "1", "1"]),
         ("always from tester good\nalways from tester,ecu good", ["2", "2", "2", "2", "2"]),
         ("always id 124 good\nalways good", ["2", "2", "2", "1", "1"]),
@@ -145,7 +145,7 @@ def test_which_one(tmp_path, faults, rules):
 
 
 def test_64_rules(tmp_path):
-    """A rule that was given while 64 rules were left gets no number."""
+    """A rule that was given while 64 rules remained gets no number."""
     full = "next 1 good\n" * 64
     given = "at 0 always lastbit\nat 4 next 9 good\nat 4 next 9 global bit\n"
     # Attempts 0 and 1 use up rules 1 and 2, attempt 2 uses up rule 3, attempt 3 uses up rule 4, and so on.
@@ -192,7 +192,7 @@ WRONG = [
 
 @pytest.mark.parametrize("lines, fault, note", WRONG)
 def test_a_file_that_is_none(tmp_path, lines, fault, note):
-    """If a faults file has a wrong line, no event is written, and the line is shown."""
+    """If a faults file has a wrong line, no event is written, and the report shows the line."""
     status, written, errors = audited(tmp_path, f"# faults\n{lines}\n")
     number, last = lines.count("\n") + 2, lines.split("\n")[-1].replace("\r", "?")
     first, shown, why = errors.splitlines()
@@ -201,7 +201,7 @@ def test_a_file_that_is_none(tmp_path, lines, fault, note):
 
 
 def test_lines_of_a_run_are_none_of_a_bus(tmp_path):
-    """A script of a bench may not have lines that begin with `at`."""
+    """A bench script must not have lines that begin with `at`."""
     (tmp_path / "my.script").write_text("at 0 always good\n")
     status, written, errors = run_line("bench can0@my.script", cwd=tmp_path)
     assert (status, written) == (1, "") and errors.startswith(
@@ -225,7 +225,7 @@ def test_names_and_files(tmp_path):
 
 
 def test_names_by_their_places(tmp_path):
-    """The place of a name in the list says which interface it is."""
+    """The position of a name in the list determines its interface."""
     faults = "always from ecu good"
     assert rules_of(audited(tmp_path, faults)[1]) == ["", "", "1", "1", "1", "1", "", "1"]
     assert rules_of(audited(tmp_path, faults, names="tester,ecu")[1]) == [""] * 8
@@ -246,7 +246,7 @@ def test_names_of_another_bus(tmp_path, names):
 
 
 def test_names_of_another_bus_in_parts(tmp_path):
-    """A wrong number of names is refused, wherever the first file of the record ends."""
+    """A wrong number of names is refused, wherever the first of two files of the record ends."""
     (tmp_path / "run.faults").write_text("always good\n")
     for cut in range(1, len(FRONT)):
         (tmp_path / "one.rec").write_text(RECORD[:cut])
@@ -261,7 +261,8 @@ def test_names_of_another_bus_in_parts(tmp_path):
 
 
 def file_of(case, output, source):
-    """Returns the faults of a run as a file: the lines of its script, with the changes during the run between them."""
+    """Returns the faults of a run as a file: the lines of its script, with the changes during the run inserted between
+    them."""
     later, tried = [], 0
     answers = [line for line in output if line.startswith("1 <")][2:]
     attempts = iter([line for line in output if line.startswith(("tried ", "idle"))])
@@ -282,7 +283,7 @@ def file_of(case, output, source):
 
 
 def runs(maker, count, folder):
-    """Yields this many random runs: the names, the record, and the text of the faults of each."""
+    """Yields `count` random runs: the names, the record, and the content of the faults file for each run."""
     while count:
         case = maker.case()
         case.write_to(folder)
@@ -290,7 +291,7 @@ def runs(maker, count, folder):
         done = subprocess.run(
             words, input=case.text.encode(), cwd=folder, capture_output=True, timeout=WAIT, check=False
         )
-        # A run in which a line gives one rule too many ends with a fault, and is left out.
+        # A run in which a line gives one rule too many ends with a fault, and is skipped.
         if done.returncode == 0:
             yield case.names, (folder / RECORD_FILE).read_bytes(), file_of(
                 case, done.stdout.decode().splitlines(), maker.random

@@ -1,9 +1,7 @@
-"""Tests the time of attempts on the wire and the numbers of bits of their frames, by `canbusd audit --events
---bitrate`.
-
-There are tests of frames and attempts whose lengths follow from their fields, of each kind of frame and attempt,
-compared with the models wire_model.py and wire_times.py, which build frames bit by bit, and of refused words.
-test_record_events.py has random runs.
+"""Tests the times of attempts on the wire and the number of bits in their frames, as `canbusd audit --events --bitrate`
+reports them. There are tests of frames and attempts whose lengths follow from their fields. There are tests of every
+kind of frame and attempt, compared with the models wire_model.py and wire_times.py, which build frames bit by bit.
+There are also tests of refused arguments. test_record_events.py has random runs.
 """
 
 import os
@@ -20,10 +18,10 @@ from timed_benches import random_rates, rate_options
 from wire_model import FD_LENGTHS, KNOWN_LENGTHS, Frame, bit_counts, random_data, random_frames
 from wire_times import Rates, ending_of
 
-# At these bit rates a nominal bit takes 1,000 nanoseconds, and a fast bit 125.
+# At these bit rates a nominal bit takes 1,000 nanoseconds, and a bit at the data bit rate takes 125.
 FAST = Rates(1_000_000, 8_000_000)
-# Attempts to send a frame to another interface: the verdict, the outcome and the accepting interfaces. Interface 2 is
-# missing, so it can't see a fault.
+# Attempts to send a frame to another interface: the verdict, the outcome and the accepting interfaces. Interface 2 does
+# not exist, so it can't detect a fault.
 ATTEMPTS = [
     ("lastbit", "lastbit", "0002"),
     ("global-bit", "destroyed", "0000"),
@@ -51,8 +49,8 @@ def record_of(frame, attempts):
 
 
 def wires(record, rates):
-    """Returns the wire parts of a record's events: the nanoseconds of the frame and of the attempt, and the bits at
-    each rate."""
+    """Returns the wire parts of a record's events: the durations of the frame and of the attempt in nanoseconds, and
+    the number of bits at each rate."""
     words = [program(), "audit", "--events", *rate_options(rates), "/dev/stdin"]
     done = subprocess.run(words, input=record, capture_output=True, text=True, timeout=WAIT, check=False)
     assert (done.returncode, done.stderr) == (0, ""), record
@@ -78,27 +76,27 @@ def test_known_lengths_of_classic_frames(text, bits):
         ("555##1" + 20 * "55", 27, 37 + 160),
         ("15555555##1" + 20 * "55", 46, 37 + 160),
         ("123##1" + 64 * "00", 27, 651),
-        # Without a switch the BRS bit is dominant. Before a length of 3 it makes five zeros in a row, so a stuff bit
+        # Without a switch the BRS bit is dominant. With a length of 3 it is one of five zeros in a row, so a stuff bit
         # follows.
         ("555##0" + 20 * "55", 27 + 37 + 160, 0),
         ("555##0" + 3 * "55", 27 + 32 + 24 + 1, 0),
     ],
 )
 def test_known_lengths_of_fd_frames(text, nominal, fast):
-    """FD frames with only fixed stuff bits have the lengths that counting their fields gives. So does a frame with the
-    stuff bits of 64 zero bytes."""
+    """FD frames with only fixed stuff bits have the lengths that follow from counting their fields. So does a frame
+    with the stuff bits of 64 zero bytes."""
     assert bits_of(text) == (nominal, fast)
 
 
 def test_known_lengths_of_attempts():
-    """Attempts have 52 bits up to the end of the data, 67 up to the end of the CRC, 77 in a frame, and 3 in the
-    intermission."""
+    """Attempts have 52 bits up to the end of the data, 67 up to the end of the CRC, 77 in a whole frame, and 3 more in
+    the intermission."""
     frame, rates = "123#11223344", Rates(500_000)
     lengths = [77 + 18, 52 + 23, 52 + 23, 67 + 26, 67 + 26, 67 + 26, 80, 80]
     assert wires(record_of(frame, ATTEMPTS), rates) == [(154_000, 2_000 * length, 77, 0) for length in lengths]
     assert wires(record_of(frame, NOBODY), rates) == [(154_000, 2_000 * (67 + 19), 77, 0)]
-    # An FD frame has 17 nominal and 5 fast bits up to the end of its data, and 17 nominal and 32 fast bits up to the
-    # end of its CRC.
+    # An FD frame has 17 nominal and 5 fast bits up to the end of its data. Up to the end of its CRC it has 17 nominal
+    # and 32 fast bits.
     frame, length = "123##1", 27_000 + 32 * 125
     assert wires(record_of(frame, ATTEMPTS), FAST)[1] == (length, 40_000 + 5 * 125, 27, 32)
     assert wires(record_of(frame, NOBODY), FAST) == [(length, 36_000 + 32 * 125, 27, 32)]
@@ -111,8 +109,8 @@ def test_known_lengths_of_attempts():
         ("000#", Rates(500_000), 100_000, 106_000),
         # The frame has 50 bits and the attempt 53, each of 3,333 and a third nanoseconds.
         ("000#", Rates(300_000), 166_667, 176_667),
-        # The frame has 27 bits of 2,000 nanoseconds and 32 bits of 333 and a third. A switch to the nominal rate
-        # changes nothing.
+        # The frame has 27 bits of 2,000 nanoseconds and 32 bits of 333 and a third. Without a data bit rate, all 59
+        # bits take 2,000 nanoseconds.
         ("555##1", Rates(500_000, 3_000_000), 64_667, 70_667),
         ("555##1", Rates(500_000), 118_000, 124_000),
         ("123##1" + 64 * "00", FAST, 108_375, 111_375),
@@ -140,7 +138,7 @@ def frames(maker, count):
 
 
 def test_each_kind_of_frame_and_attempt(rng, cases):
-    """The program agrees with the model for each kind of frame and attempt, at random bit rates."""
+    """The program agrees with the model for every kind of frame and attempt, at random bit rates."""
     for frame in frames(rng, cases // 10):
         rates, whole = random_rates(rng), bit_counts(frame)
         for attempts in (ATTEMPTS, NOBODY):
@@ -167,7 +165,7 @@ def test_where_the_part_is(tmp_path):
 
 
 def test_the_worked_line(tmp_path):
-    """The line with a time in docs/RECORD.md is in the events of the record shown there."""
+    """The line with a time in docs/RECORD.md is among the events of the record shown there."""
     with open(os.path.join(ROOT, "docs", "RECORD.md"), encoding="utf-8") as page:
         (line,) = re.findall("^    (attempt .*; wire .*)$", page.read(), re.MULTILINE)
     (tmp_path / "run.rec").write_bytes(example())

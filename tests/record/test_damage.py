@@ -1,12 +1,10 @@
-"""Tests what `canbusd audit` reports for damaged records, compared with the independent model of record_events.py.
-
-Each byte of the record in docs/RECORD.md is changed, to 30 other bytes or, with --all-bytes, to all 255. The record is
-also cut at each byte, and audited with and without `--cut`. The same is done for a record with an automatic restart,
-which is version 2, one with FD frames, which is version 3, and one that was written during its run, which is version 4.
-Records of the examples and of random runs, which have every kind of line, have bytes changed, and lines left out,
-doubled, exchanged, moved, and given other words and replies. The program and the model must report the same first wrong
-line or entry, and `ok` for the same records. With --beside another program, which audits like canbusd, must report the
-same.
+"""Tests what `canbusd audit` reports for damaged records, compared with the independent model of record_events.py. Each
+byte of the record in docs/RECORD.md is changed, to 30 other bytes or, with --all-bytes, to all 255. The record is also
+cut at each byte, and audited with and without `--cut`. The same is done for a record with an automatic restart (version
+2), one with FD frames (version 3), and one that was written during its run (version 4). In the records of the examples
+and of random runs, which contain every kind of line, bytes are changed, and lines are left out, doubled, exchanged,
+moved, or given other words and replies. The program and the model must report the same first wrong line or entry, and
+`ok` for the same records. A further program that --beside names, which audits like canbusd, must report the same.
 """
 
 import glob
@@ -24,7 +22,7 @@ from record_text import REFUSALS
 from run_again import Again, compile_library
 from serving import ROOT, WAIT
 
-# The number of tests that share the bytes of a record, so that they run in parallel.
+# How many tests share the bytes of a record, so that they run in parallel.
 PARTS = 6
 in_parts = pytest.mark.parametrize("part", range(PARTS))
 
@@ -38,8 +36,8 @@ class Tried:
         self.program, *self.beside = programs
         self.changes_all, self.rng, self.folder = changes_all, rng, folder
         self.said = {}
-        # The running program for each set of options, which repeats its audit. Without a compiler the program is
-        # started for each audit.
+        # For each set of options, the running program that repeats its audit. Without a compiler the program is started
+        # for each audit.
         self.library, self.started = library, {}
 
     def audited(self, program, data, *options):
@@ -53,9 +51,9 @@ class Tried:
         return self.started[options].run(data)
 
     def one(self, data):
-        """Checks that each program gives the verdict of the model on a record."""
+        """Checks that every program reports the verdict of the model on a record."""
         wanted = audit(data)
-        # The other program may know more versions.
+        # The other program may support more versions.
         beside = self.beside if wanted != "canbusd: bad version" else []
         for program in (self.program, *beside):
             status, output, errors = self.audited(program, data)
@@ -150,13 +148,13 @@ def with_fd():
 
 
 def with_flags():
-    """Returns the record of `with_fd` with flags in its FD frames."""
+    """Returns the record of `with_fd`, but with flags in its FD frames."""
     text = with_fd().replace(b"record 3", b"record 5").replace(b"123##0 = fd-off", b"123##2 = fd-off")
     return text.replace(b"##001", b"##101").replace(b"##0FF", b"##3FF")
 
 
 def live(data=None):
-    """Returns a record as a server writes it during its run. By default it is the record with an automatic restart."""
+    """Returns a record as a server writes it while it runs. By default it is the record with an automatic restart."""
     first, bus, entries = (data or restarted()).split(b"\n", 2)
     *words, capacity, limit, restart = [*bus.split(b" "), *([b"0"] if first.endswith(b"1") else [])]
     assert (capacity, limit) == (b"10", b"100")
@@ -261,7 +259,7 @@ def test_bytes_of_a_record_with_a_restart(tried):
     """The verdicts agree for damaged records of version 2."""
     data = restarted()
     assert audit(data) == "ok 42 entries", f"the record: {audit(data)}"
-    # The attempts before bus off are all alike, so their bytes are not changed.
+    # The attempts before bus off are all alike, so their bytes are left unchanged.
     lines = data.splitlines(True)
     change_bytes(tried, data, len(b"".join(lines[:7])), len(b"".join(lines[:36])))
 
@@ -300,8 +298,8 @@ def test_bytes_of_a_live_record_with_fd_frames(tried):
 
 
 def change_bytes(tried, data, skip_from=0, skip_to=0, part=None):
-    """Changes and removes each byte of a record, cuts the record there, and appends text. Leaves out the bytes from
-    `skip_from` to `skip_to`, and the bytes of other parts."""
+    """Changes and removes each byte of a record, cuts the record there, and appends bytes. Leaves out the bytes from
+    `skip_from` to `skip_to`, and the bytes that other parts of the test cover."""
     tried.one(data)
     for place, byte in enumerate(data):
         if skip_from <= place < skip_to or part not in (None, place % PARTS):
@@ -317,7 +315,7 @@ def change_bytes(tried, data, skip_from=0, skip_to=0, part=None):
 
 
 def test_named_damages_of_the_example(tried):
-    """These damaged records get the expected verdicts, both from the model and from the program."""
+    """For these damaged records, both the model and the program report the expected verdicts."""
     text = example().decode()
     damages = [
         (text.replace("canbus record 1", "canbus record 9"), "bad version"),
@@ -378,7 +376,7 @@ def test_named_damages_of_the_example(tried):
 
 
 def test_named_cuts(tried):
-    """These records that are cut off get the expected verdicts, both from the model and from the program."""
+    """For these records that are cut off, both the model and the program report the expected verdicts."""
     lines = example().splitlines(True)
     wrong = [line.replace(b"done 0002", b"done 0000") for line in lines]
     bad = [line.replace(b"123#01FF", b"123#01ff") for line in lines]
@@ -402,10 +400,10 @@ def test_named_cuts(tried):
         (b"", "canbusd: bad version"),
         (b"".join([*lines, b"x"]), "canbusd: line 11: bad line"),
         (b"".join([*lines, b"x\n"]), "canbusd: line 11: bad line"),
-        # An FD frame may follow later.
+        # An FD frame may still follow after the cut.
         (needless, "ok 1 entries, then cut off"),
         (needless + b"end 1\n", "canbusd: bad version"),
-        # A record of version 4 needs no FD frame.
+        # A record of version 4 does not have to contain an FD frame.
         (live(example()), "ok 7 entries"),
         (live(example())[:-1], "ok 7 entries, then cut off"),
         (live(with_fd()), "ok 15 entries"),
@@ -420,7 +418,7 @@ def test_named_cuts(tried):
 
 
 def test_files_of_one_record(tried):
-    """A record in two files is one record, wherever it is split, and a missing file is reported."""
+    """A record that is split into two files is audited as one, wherever it is split. A missing file is reported."""
     data = example()
     first, second = tried.folder / "1.rec", tried.folder / "2.rec"
     for place in range(len(data) + 1):
@@ -443,7 +441,7 @@ def test_files_of_one_record(tried):
 
 
 def test_what_cut_would_do_is_said(tried):
-    """If a record lacks its last line, a note says what --cut would do. Other faults get no such note."""
+    """If the last line of a record is missing, a note says what --cut would do. Other faults get no such note."""
     text = example()
     cut = "  with --cut the {} entries before it are audited\n"
     ends = [
@@ -502,7 +500,7 @@ def with_other_word(rng, line):
     place = rng.randrange(len(words))
     word = words[place]
     if word.isdigit() and rng.random() < 0.7:
-        # A capacity has 32 bits in canbusd, and may have more in other programs.
+        # A capacity has 32 bits in canbusd, and may have more bits in other programs.
         far = 10**6 if words[0] == b"open" else 2**32
         words[place] = b"%d" % max(0, int(word) + rng.choice([-1, 1, 2, 10**6, far, 2**64]))
     elif word:

@@ -1,6 +1,5 @@
-"""Tests that a bench takes logs of candump as inputs, and that python-can and can-utils read logs of a bench.
-
-Each reader must find one message for each line, with the line's identifier, kind and data.
+"""Tests that candump logs can be used as inputs to a bench, and that python-can and can-utils can read the logs of a
+bench. Each reader must find one message for each line, with the line's identifier, kind and data.
 """
 
 import os
@@ -14,7 +13,7 @@ from commands import call, is_clean
 from serving import ROOT, program
 
 LOG_READER = os.path.join(ROOT, "tools", "candump2bench")
-# A line of each kind, as in the tests of can_logfile.
+# One line of each kind, as in the tests of can_logfile.
 EVERY_KIND = """\
 (0000000000.000005) can0 00000123#R3
 (0000000023.424242) can0 123#11223344
@@ -40,7 +39,8 @@ class Message:
         word, payload = text.split("#", 1)
         self.is_fd, self.flags = payload.startswith("#"), 0
         if self.is_fd:
-            # An FD frame has a second # and a digit of flags: 1 is the bit rate switch, 2 the error state indicator.
+            # An FD frame has a second # and a digit with its flags: 1 is the bit rate switch, 2 the error state
+            # indicator.
             self.flags, payload = int(payload[1]), payload[2:]
         self.is_error = len(word) == 8 and int(word, 16) & 0x20000000 != 0
         self.is_extended = len(word) == 8 and not self.is_error
@@ -50,7 +50,7 @@ class Message:
 
 
 def by_python_can(path, messages):
-    """Returns a report for each message that python-can reads differently."""
+    """Returns a description of each message that python-can reads differently."""
     reader = pytest.importorskip("can.io", reason="python-can is not installed")
     found = list(reader.CanutilsLogReader(path))
     faults = [] if len(found) == len(messages) else [f"python-can: {len(found)} messages"]
@@ -70,7 +70,7 @@ def by_python_can(path, messages):
 
 
 def by_log2asc(path, messages):
-    """Returns a report for each message that log2asc of can-utils reads differently."""
+    """Returns a description of each message that log2asc from can-utils reads differently."""
     if not shutil.which("log2asc"):
         pytest.skip("can-utils is not installed")
     channels = sorted({message.channel for message in messages})
@@ -106,7 +106,7 @@ LOG = """\
 (1.000450) can1 123##10102030405060708090A0B0C
 (1.000460) can0 1FFFFFFF##0
 """
-# The frames of LOG that a listener receives.
+# The frames in LOG that a listener receives.
 HEARD = [
     "frame 123 1.000000 1122", "remote 123 1.000100 0", "remote 7FF 1.000200 4",
     "frame 1FFFFFFF 1.000300 0102030405060708", "frame 12345678 1.000400 ", "frame 048C0000 0.500000 DEADBEEF",
@@ -123,7 +123,7 @@ LOGGED = """\
 (0000000001.000450) can1 123##10102030405060708090A0B0C
 (0000000001.000460) can0 1FFFFFFF##0
 """
-# Lines that are refused, and a word of the reason.
+# Lines that are refused, and a word that occurs in the reason.
 NOT_TAKEN = [
     ("(1.000500) can0 123##0112233445566778899", "bytes"),
     ("(1.000500) can0 123##", "no frame"),
@@ -156,8 +156,8 @@ def heard(bench, folder):
 
 
 def test_logs_of_candump(tmp_path):
-    """candump2bench takes data, remote and 29-bit frames of several interfaces with their times, and reports each line
-    that it can't take."""
+    """candump2bench converts data, remote and 29-bit frames from several interfaces with their times, and reports each
+    line that it can't convert."""
     path = os.path.join(tmp_path, "run.log")
     with open(path, "w", encoding="ascii") as file:
         file.write(LOG)
@@ -181,7 +181,7 @@ def test_logs_of_candump(tmp_path):
 
 
 def test_log_of_a_bench(tmp_path):
-    """A log that is played by a bench has the same frames and times in the log of that bench."""
+    """If a bench plays a log, the log of that bench has the same frames and times."""
     path, log = tmp_path / "run.log", tmp_path / "again.log"
     path.write_text(LOG)
     bench = call(LOG_READER, path)[1]
@@ -206,8 +206,8 @@ def log_with_destroyed_frames(folder):
 
 @pytest.mark.parametrize("reads", [by_python_can, by_log2asc])
 def test_readers(reads, tmp_path):
-    """python-can and can-utils read each log of a bench: one with every kind of line, one of a played log, and one with
-    destroyed frames."""
+    """python-can and can-utils read every log of a bench: one with every kind of line, one of a played log, and one
+    with destroyed frames."""
     path = tmp_path / "read.log"
     for text in (EVERY_KIND, LOGGED, log_with_destroyed_frames(tmp_path)):
         path.write_text(text)
@@ -216,7 +216,7 @@ def test_readers(reads, tmp_path):
 
 
 def test_log_of_many_frames(tmp_path):
-    """candump2bench takes a log of 20,000 frames of 3 interfaces, as python-can and can-utils write it."""
+    """candump2bench converts a log of 20,000 frames from 3 interfaces, as written by python-can and by can-utils."""
     lines, wanted = [], []
     for number in range(20000):
         identifier = f"{0x10000000 + number * 4177:08X}" if number % 3 == 0 else f"{number * 7 % 0x800:03X}"

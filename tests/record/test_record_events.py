@@ -1,8 +1,7 @@
-"""Tests that `canbusd audit --events` writes the events of an independent model, for random runs, whole and cut off.
-
+"""Tests that `canbusd audit --events` writes the events of an independent model, for random runs, complete and cut off.
 The model is record_events.py. If a record is not legal, the program writes the lines before the fault. With bit rates
-the lines have times on the wire, which wire_model.py and wire_times.py compute. The tests also check that the Python
-package reads from these lines what the model has.
+the lines contain times on the wire, which wire_model.py and wire_times.py compute. The tests also check that the Python
+package reads from these lines the values that the model has.
 """
 
 import subprocess
@@ -34,7 +33,7 @@ BUS_OFF = [
 ]
 AT_BUS_OFF = "; counts 0 256 0; counts 1 0 32; lost 0 2; put 0:20000040#0000000000000000"
 AT_RESTART = "; counts 0 0 0; put 0:20000100#0000000000000000"
-# An interface goes down twice, and comes up. Each entry has the parts of its event line.
+# An interface goes down twice, and comes up again. Each entry is listed with the parts of its event line.
 DOWNS = [
     ("open 0 256 = socket 0", ""),
     ("open 1 256 = socket 1", ""),
@@ -57,7 +56,7 @@ DOWNS = [
     ("attempt 0.000007 good = tried 0 2 103# done 0006 0000", "; put 1"),
 ]
 BUS_OF_DOWNS = "bus 3 always 0000 10 100 0"
-# A record of version 6 that does not need this version.
+# A record of version 6 that uses nothing that needs this version.
 BUS_OFF_6 = "".join(f"{line}\n" for line in ["canbus record 6", *BUS_OFF[1:]]).encode()
 
 
@@ -81,7 +80,7 @@ def said(data, *options):
 
 
 def records(seed, count, folder):
-    """Yields the records of this many random runs."""
+    """Yields the records of `count` random runs."""
     maker = Maker(seed)
     while count:
         case, path = maker.case(), folder / "run.rec"
@@ -94,7 +93,7 @@ def records(seed, count, folder):
 
 
 def test_the_model():
-    """The model writes the lines that two records have by hand."""
+    """The model writes the lines that were worked out by hand for two records."""
     assert events_of(RECORD.encode()) == EVENTS
     lines = events_of("".join(f"{line}\n" for line in BUS_OFF).encode()).splitlines()
     assert lines[:2] == ["canbus events 1", BUS_OFF[1]] and lines[6] == f"{BUS_OFF[6]}; counts 0 8 0; counts 1 0 1"
@@ -108,7 +107,8 @@ def test_the_model():
 
 
 def test_the_model_of_downs():
-    """The model writes the lines that the entries of DOWNS have by hand, and it checks which version they need."""
+    """The model writes the lines that were worked out by hand for the entries of DOWNS, and it checks which version
+    they need."""
     assert events_of(with_downs()) == events_of_downs()
     others = {
         with_downs().replace(b"record 6", b"record 5"): "line 10: bad line",
@@ -120,8 +120,8 @@ def test_the_model_of_downs():
 
 
 def test_events_of_downs():
-    """The program writes the lines of the model for the entries of DOWNS, and its reports on wrong records agree with
-    the model."""
+    """For the entries of DOWNS, the program writes the same lines as the model, and its reports on wrong records agree
+    with the model."""
     assert said(with_downs(), "--events") == (events_of_downs(), 0, "")
     for data in (with_downs().replace(b"record 6", b"record 5"), with_downs().replace(b"interface-down", b"bus-off")):
         assert said(data)[2].splitlines()[0] == record_events.audit(data)
@@ -129,7 +129,7 @@ def test_events_of_downs():
 
 
 def test_events_of_random_runs(request, cases, tmp_path):
-    """The program writes the lines of the model for random runs."""
+    """For random runs, the program writes the same lines as the model."""
     items = 0
     for data in records(request.config.getoption("seed"), cases // 2, tmp_path):
         wanted = events_of(data)
@@ -139,7 +139,7 @@ def test_events_of_random_runs(request, cases, tmp_path):
 
 
 def test_time_on_the_wire_of_random_runs(request, rng, cases, tmp_path):
-    """The program writes the times of the model for random runs at random bit rates."""
+    """For random runs at random bit rates, the program writes the same times as the model."""
     tried = 0
     for data in records(request.config.getoption("seed"), cases // 10, tmp_path):
         rates = random_rates(rng)
@@ -150,7 +150,8 @@ def test_time_on_the_wire_of_random_runs(request, rng, cases, tmp_path):
 
 
 def test_events_of_records_that_are_cut_off(request, rng, cases, tmp_path):
-    """The program writes the lines of the model for records that are cut off at a random place, even within a line."""
+    """For records that are cut off at a random position, even within a line, the program writes the same lines as the
+    model."""
     for data in records(request.config.getoption("seed"), cases // 10, tmp_path):
         whole = data[: rng.randrange(data.index(b"\n", data.index(b"\n") + 1) + 1, len(data))]
         written, status, _ = said(whole, "--events", "--cut")
@@ -184,7 +185,7 @@ def step_of(step):
 
 def bus_of(run, text=lambda frame: frame):
     """Returns the state of a run at its end: interfaces with their waiting and lost frames, sockets, refused sends, and
-    counts."""
+    error counts."""
     ifaces = [
         (
             [*map(text, one.waiting)],
@@ -206,14 +207,14 @@ def bus_of(run, text=lambda frame: frame):
 
 
 def queued_in(parts):
-    """Yields the items in the `put` parts of entries: the number of the socket, and the error message frame if there is
+    """Yields the items in the `put` parts of entries: the index of the socket, and the error message frame if there is
     one."""
     for words in (part.split(" ")[1:] for one in parts.values() for part in one if part.startswith("put ")):
         yield from ((int(number), error) for number, _, error in (word.partition(":") for word in words))
 
 
 def times_in(lines):
-    """Returns the times on the wire in these lines, by the number of the entry."""
+    """Returns the times on the wire in these lines, by the index of the entry."""
     found = {}
     for number, line in enumerate(lines):
         wire = line.partition("; wire ")[2]
@@ -237,8 +238,8 @@ def test_the_times_that_the_package_reads(request, rng, cases, tmp_path):
 
 
 def test_what_the_package_reads(request, cases, tmp_path):
-    """The package reads the steps, items, lost frames and final state of the model, for random runs and for the entries
-    of DOWNS.
+    """For random runs and for the entries of DOWNS, the package reads the same steps, items, lost frames and final
+    state as the model.
     """
     for data in [with_downs(), *records(request.config.getoption("seed"), cases // 4, tmp_path)]:
         run, model = Replay(), record_events.Replay(parse_text(data))
@@ -249,7 +250,7 @@ def test_what_the_package_reads(request, cases, tmp_path):
         assert run.lost == lost, data
         items = [*zip(run.items.steps, run.items.sockets, run.items.errors, run.items.fates())]
         queued = [(run.steps.entries[step], socket, error) for step, socket, error, fate in items if fate != DROPPED]
-        # A line has the items of restarts among those of the attempt.
+        # In a line, the items that restarts cause are listed among those of the attempt.
         by_socket = sorted(queued, key=lambda item: item[:2])
         assert [(socket, run.texts.all[error]) for _, socket, error in by_socket] == [*queued_in(model.parts)], data
         assert len(items) - len(queued) == sum(socket.dropped for socket in run.sockets), data

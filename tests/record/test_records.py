@@ -22,7 +22,7 @@ VERSION = (
     "down, canbus record 6"
 )
 LINE = "a line is EVENT = REPLY, and the last is end COUNT; each ends with LF"
-# The old text, the new text, the fault, the wrong line with its number, and the note.
+# The old string, the new string, the fault, the wrong line with its number, and the note.
 DAMAGED = [
     (
         "done 0002",
@@ -132,7 +132,7 @@ def test_a_file_that_cannot_be_opened(what, tmp_path):
 
 
 def test_files_of_a_run_that_ends_in_a_fault(tmp_path):
-    """A run that ends in a fault makes no new files and leaves old files unchanged."""
+    """A run that ends in a fault creates no new files and leaves old files unchanged."""
     errors = """canbusd: line 1: bad line
   standard input:1: attempt 1
   nothing may follow attempt: each line makes one attempt
@@ -179,14 +179,14 @@ def test_damaged_records(old, new, fault, place, note, tmp_path):
 
 @pytest.mark.parametrize("damaged, number", [(b"canbus record 9\n\xff\n", 2), (b"\xff", 1)])
 def test_bytes_that_are_no_text(damaged, number, tmp_path):
-    """Bytes that are not UTF-8 text are reported before a malformed line, wherever they are."""
+    """Bytes that are not UTF-8 text are reported before a malformed line, whichever comes first in the record."""
     (tmp_path / "damaged.rec").write_bytes(damaged)
     errors = f"canbusd: read fault\n  damaged.rec:{number}: ?\n  this line is no UTF-8 text\n"
     assert run_line("audit damaged.rec", cwd=tmp_path) == (1, "", errors)
 
 
 def test_the_record_of_a_restart(tmp_path):
-    """The record has the automatic restart of an interface, and a record without the restart is wrong."""
+    """The record contains the automatic restart of an interface, and a record without the restart is wrong."""
     (tmp_path / "off.script").write_text("".join(f"{number} global bit\n" for number in range(32)))
     attempts = "".join(f"at 0.{number:06}\nattempt\n" for number in range(1, 35))
     lines = f"feed 1 < errmask 140 >< send 123 0 >\n{attempts}drain 1\nfeed 1 < send 123 0 >\nattempt\n"
@@ -197,8 +197,7 @@ def test_the_record_of_a_restart(tmp_path):
     record = tmp_path / "run.rec"
     start = "canbus record 2\nbus 2 always 0000 10 1000000 2\nopen 0 256 = socket 0\n"
     assert record.read_text().startswith(start)
-    # The entries are two sockets, an option, a frame, 34 attempts, receives until no item remains, a frame and an
-    # attempt.
+    # The entries are two opens, an option, a send, 34 attempts, receives until no item remains, a send and an attempt.
     assert run_line("audit run.rec", cwd=tmp_path) == (0, "ok 43 entries\n", "")
     record.write_text(record.read_text().replace(" restarted 0001", ""))
     errors = """canbusd: entry 37: wrong

@@ -1,4 +1,4 @@
-"""Tests the reports on runs: pages in a browser, drawings, and the replay compared with the program."""
+"""Tests the reports on runs: pages in a browser, drawings, and a replay that is compared with the program."""
 
 import os
 import re
@@ -26,7 +26,7 @@ def reported(*words):
 
 
 def numbers_asked(written, sessions):
-    """Returns the last answers of each session to `stats` and `status`, each as a tuple of words."""
+    """Returns each session's last answers to `stats` and `status`, as a tuple of words."""
     found = re.findall(
         r"< stats ([0-9 ]+) >< status (\w+) (\d+) (\d+) >$", "\n".join(written.splitlines()[-sessions:]), re.M
     )
@@ -34,7 +34,8 @@ def numbers_asked(written, sessions):
 
 
 def numbers_replayed(run):
-    """Yields the same numbers for each socket that is open at the end of a replay."""
+    """Yields the numbers that `stats` and `status` would report for each socket that is open at the end of a replay, as
+    a tuple of strings."""
     for socket in run.sockets:
         if socket.closed_after is None:
             iface = run.ifaces[socket.iface]
@@ -82,7 +83,7 @@ def test_replay(tmp_path):
 
 
 def test_record_of_another_history(tmp_path):
-    """The replay notices each changed reply in a record, like the audit."""
+    """The replay detects every changed reply in a record, as the audit does."""
     record, _ = example("last_bit", tmp_path)
     with open(record, encoding="ascii") as file:
         lines = file.read().splitlines()
@@ -109,8 +110,8 @@ def replies_like(line):
 
 
 def test_faults_of_records(tmp_path):
-    """`canbusd report` fails cleanly if a record is missing, empty, binary, cut or damaged. It also does if a reader
-    goes away or a device is full."""
+    """`canbusd report` fails with a clean message if a record is missing, empty, binary, cut or damaged. It also does
+    so if its reader goes away or a device is full."""
     record, _ = example("bus_off_attack", tmp_path)
     with open(record, "rb") as file:
         text = file.read()
@@ -150,8 +151,8 @@ def test_faults_of_records(tmp_path):
 
 
 def test_names_of_interfaces(tmp_path):
-    """Names of interfaces come from the arguments or from the log next to the record, but never from the log of another
-    run."""
+    """The names of interfaces come from the arguments or from the log next to the record, but never from the log of
+    another run."""
     record, _ = example("lost_arbitration", tmp_path)
 
     def winners():
@@ -191,7 +192,7 @@ def test_drawings(tmp_path):
         for drawing in ("arbitration", "counters"):
             drawn = reported(f"--{drawing}", "--names", names, record)[1].rstrip("\n").splitlines()
             widest = max([widest, *map(len, drawn)])
-            # The guide shows the first attempt of three nodes.
+            # The guide shows only the first attempt of three nodes.
             if (name, drawing) == ("lost_arbitration", "arbitration"):
                 assert "\n".join(f"    {line}" for line in drawn[:4]) in guide, f"the guide has another {drawing}"
     widest = max(widest, width_of_sixteen(tmp_path))
@@ -227,7 +228,7 @@ def page_in_browser(page, step):
         "--no-sandbox",
         "--disable-gpu",
         "--host-resolver-rules=MAP * ~NOTFOUND",
-        # The page unpacks its data before it draws.
+        # The page unpacks its data before it draws anything.
         "--virtual-time-budget=20000",
         "--dump-dom",
         f"file://{page}#step={step}",
@@ -240,7 +241,7 @@ def page_in_browser(page, step):
     )
 
 
-# Examples, each with the chosen step and the texts that the page then has.
+# Examples, each with the selected step and the strings that the page then contains.
 SHOWN = [
     (
         "lost_arbitration",
@@ -273,14 +274,14 @@ def test_page(name, tmp_path):
     record, names = example(name, tmp_path)
     status, page, errors = reported("--names", names, record)
     assert (status, errors) == (0, "") and page.endswith("</html>\n"), errors
-    # The icon is in the page, so that no browser requests one.
+    # The icon is embedded in the page, so that no browser requests one.
     assert not re.search(r"https?:|\bsrc=|\bhref=(?!\"data:)|@import|url\(", page), "a link"
 
 
 @pytest.mark.browser
 @pytest.mark.parametrize("name, step, texts", SHOWN)
 def test_page_in_a_browser(name, step, texts, tmp_path):
-    """The page in a browser shows the chosen attempt."""
+    """The page in a browser shows the selected attempt."""
     record, names = example(name, tmp_path)
     path = tmp_path / f"{name}.html"
     path.write_text(reported("--names", names, record)[1], encoding="utf-8")
@@ -291,7 +292,7 @@ def test_page_in_a_browser(name, step, texts, tmp_path):
 
 @pytest.mark.slow
 def test_page_of_a_long_run(tmp_path):
-    """The page of 100,000 attempts can be made, and opens in a browser."""
+    """The page of a run with 100,000 attempts can be created, and opens in a browser."""
     lines = ["session 1\nfeed 1 < open can0 >< rawmode >\nsession 2\nfeed 2 < open can1 >< rawmode >\n"]
     lines += [
         f"at {number // 1000}.{number % 1000:03}000\n"

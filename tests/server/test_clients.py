@@ -72,13 +72,14 @@ def test_python_can_both_ways():
             for length in (0, 1, 8):
                 got = passes(can0, can1, number, bytes(range(0xF8, 0xF8 + length)))
                 assert abs(got.timestamp - time.time()) < WAIT, f"the moment {got.timestamp}"
-                # An interface does not get its own frames, so its next frame is the one from the other interface.
+                # An interface does not get its own frames, so the next frame on each interface is the one that the
+                # other interface sent.
                 passes(can1, can0, number, bytes(range(length)))
         passes(can0, can1, 0x7FF, b"")
 
 
 def test_empty_frame():
-    """The text of a frame without data has two spaces before its end."""
+    """A frame without data is sent as a message with two spaces before its end."""
     with serving("can0,can1") as server, client(server, "can0") as can0, client(server, "can1") as can1:
         socket1 = plain(server, "can1")
         got = passes(can0, can1, 0x123, b"")
@@ -129,7 +130,7 @@ def test_remote_frames():
         can0.send(message(0x123, is_remote_frame=True, dlc=3))
         can0.send(message(0x125, is_remote_frame=True, dlc=0))
         got = socket1.text()
-        # The python-can of Debian 13 sends no remote frames either, and has no version number to check.
+        # The python-can package of Debian 13 sends no remote frames either, and has no version number to check.
         if not got.startswith("< remote 123 "):
             assert unknown, f"logged {lines}"
             assert re.fullmatch(r"< frame 125 \S+  >", got), got
@@ -193,8 +194,8 @@ def test_connects_to_a_busy_bus():
 
 
 def first_frame(server, sender, *pieces):
-    """Sends these pieces, of which the last makes the session raw. Then a frame is sent; returns the seconds from the
-    last piece until the frame arrives."""
+    """Sends these pieces one after another; the last one puts the session into raw mode. Then another session sends a
+    frame. Returns the seconds from the last piece until the frame arrives."""
     one = Plain(server)
     texts = [one.text()]
     for piece in pieces:
@@ -210,8 +211,8 @@ def first_frame(server, sender, *pieces):
 
 
 def test_first_frame_of_a_session():
-    """The first frame comes at once to a client that sends `open` and `rawmode` together, and 20 ms later to a client
-    that waits for a reply between them."""
+    """The first frame arrives at once if a client sends `open` and `rawmode` together. It arrives 20 ms later if a
+    client waits for a reply between them."""
     with serving("--pace", "0", "can0,can1") as server:
         sender = plain(server, "can0")
         assert min(first_frame(server, sender, "< open can1 >< rawmode >") for _ in range(20)) < 0.015
@@ -219,7 +220,7 @@ def test_first_frame_of_a_session():
 
 
 def test_several_buses():
-    """No frame crosses from one bus to another if a server has two buses."""
+    """If a server has two buses, no frame crosses from one bus to the other."""
     with serving("can0,can1", "can2,can3") as server:
         with contextlib.ExitStack() as stack:
             buses = [stack.enter_context(client(server, f"can{number}")) for number in range(4)]
@@ -252,7 +253,7 @@ def candump_log(path, count):
 
 
 def of_can(module, server, *words):
-    """Returns the command that runs the player or the logger of python-can with the server."""
+    """Returns the command that runs python-can's player or logger with the server."""
     return [
         sys.executable,
         "-m",
@@ -290,7 +291,7 @@ def bytes_wait(port):
 
 
 def logger_ends(server, logger):
-    """Ends the logger after it has received all the server's frames; returns its standard error."""
+    """Ends the logger after it has received all frames from the server; returns its standard error."""
     assert come_true(
         lambda: server.rests() and not bytes_wait(server.port) and all_sleep([logger.pid]), 3 * WAIT
     ), "the logger does not come to rest"
@@ -299,8 +300,8 @@ def logger_ends(server, logger):
 
 
 def compare_logger(path, frames, warnings):
-    """Compares the logger's output with the frames. If a read of the logger ends inside a frame, the logger loses that
-    frame and logs this."""
+    """Compares the logger's output with the frames. If a read of the logger ends in the middle of a frame, the logger
+    loses that frame and logs a warning."""
     got = [(one.arbitration_id, bytes(one.data)) for one in CanutilsLogReader(path)]
     wanted = [(int(text, 16), data) for text, data in frames]
     places = {frame: place for place, frame in enumerate(wanted)}
@@ -311,8 +312,8 @@ def compare_logger(path, frames, warnings):
 
 
 def compare_files(server, frames):
-    """Compares the frames with the server's log, as read by python-can's reader and by those readers of can-utils that
-    need no kernel CAN."""
+    """Compares the frames with the server's log, as read by python-can's reader and by those readers in can-utils that
+    do not need CAN support in the kernel."""
     path = server.path("can0.log")
     with open(path, encoding="ascii") as file:
         lines = [line.split() for line in file]
@@ -339,7 +340,7 @@ def compare_files(server, frames):
     not (shutil.which("log2asc") and shutil.which("log2long")), reason="can-utils' log2asc and log2long are missing"
 )
 def test_player_and_logger():
-    """The server's log and record have the frames that can.player replays, and can.logger logs them until Ctrl-C."""
+    """The server's log and record contain the frames that can.player replays, and can.logger logs them until Ctrl-C."""
     with serving("--pace", "0", "--txqueue", "1024", "--rxqueue", "65536", "can0,can1") as server:
         frames = candump_log(server.path("replayed.log"), FRAMES)
         logged = server.path("logged.log")
@@ -366,7 +367,7 @@ def test_player_and_logger():
 
 
 def test_the_first_session():
-    """The first session of examples/python succeeds. The other tests of that folder run with those of the package."""
+    """The first session in examples/python succeeds. The other tests in that folder run with those of the package."""
     with serving("can0,can1") as server:
         words = [sys.executable, os.path.join(ROOT, "examples", "python", "first_session.py"), server.address]
         environment = {**os.environ, "CANBUSD": program()}

@@ -1,5 +1,5 @@
-"""Tests the folder of a server: only one server uses it, a refused start leaves it unchanged, and links to plain files
-in it are not followed."""
+"""Tests the folder of a server: only one server can use it, a refused start leaves it unchanged, and links to plain
+files in it are not followed."""
 
 import itertools
 import os
@@ -15,12 +15,12 @@ WHEN = ("end", "live", "none")
 
 
 def start(folder, *words):
-    """Starts a server that ends at once; returns its status, standard output and standard error."""
+    """Starts a server that exits at once; returns its status, standard output and standard error."""
     return call(program(), "serve", "--until-eof", "--listen", "127.0.0.1:0", "--out", str(folder), *words)
 
 
 def files_of(folder):
-    """Returns the inode number, the time of the last change, and the text or link target of each file."""
+    """Returns the inode number, the time of the last change, and the content or link target of each file."""
     found = {}
     for name in os.listdir(folder):
         path, status = os.path.join(folder, name), os.lstat(os.path.join(folder, name))
@@ -33,15 +33,15 @@ def files_of(folder):
 
 
 def leave_old(folder, *names):
-    """Writes files such as an earlier run leaves."""
+    """Writes files like those that an earlier run leaves."""
     for name in names:
         (folder / name).write_text(f"old {name}\n" * 20)
 
 
 @pytest.mark.parametrize("first, second", itertools.product(WHEN, WHEN))
 def test_one_server_a_folder(first, second, tmp_path):
-    """A second server is refused at once, even with other buses, and changes nothing. It starts after the first server
-    has ended.
+    """A second server in the same folder is refused at once, even with other buses, and changes nothing. It starts
+    after the first server has ended.
     """
     leave_old(tmp_path, "can0.log", "can0.rec", "can2.rec.new")
     with serving_alone("--record", first, "can0", out=tmp_path) as server:
@@ -78,8 +78,8 @@ def test_two_starts_at_once(first, second, tmp_path):
 
 @pytest.mark.parametrize("when", WHEN)
 def test_a_start_that_is_refused(when, tmp_path):
-    """If a start is refused because of its second bus, the logs and records of earlier runs stay, including those of a
-    killed run.
+    """If a start is refused because of its second bus, the logs and records of earlier runs remain, including those of
+    a killed run.
     """
     leave_old(tmp_path, "can0.log", "can0.rec", "can0.rec.new", "can0.log.new", "can2.log")
     (tmp_path / "can2.rec.new").mkdir()
@@ -94,7 +94,7 @@ def test_a_start_that_is_refused(when, tmp_path):
 
 @pytest.mark.parametrize("when", ["end", "live"])
 def test_a_fifo_for_a_record(when, tmp_path):
-    """A fifo is refused before the server listens, because a record in it could not be read again."""
+    """A fifo is refused before the server listens, because a record written to it could not be read again."""
     os.mkfifo(tmp_path / "can0.rec")
     said = f"canbusd: cannot open {tmp_path}\n  {tmp_path}/can0.rec: a fifo can't be a record\n"
     assert start(tmp_path, "--record", when, "can0") == (1, "", said)
@@ -103,7 +103,7 @@ def test_a_fifo_for_a_record(when, tmp_path):
 
 @pytest.mark.parametrize("when", WHEN)
 def test_a_fifo_where_files_are_written_first(when, tmp_path):
-    """A fifo at a name that the server writes first is removed, like any other file of that name."""
+    """A fifo at a temporary name, which the server writes to first, is removed like any other file of that name."""
     os.mkfifo(tmp_path / "can0.rec.new")
     os.mkfifo(tmp_path / "can0.log.new")
     assert start(tmp_path, "--record", when, "can0")[0] == 0
@@ -113,7 +113,8 @@ def test_a_fifo_where_files_are_written_first(when, tmp_path):
 
 @pytest.mark.parametrize("when, target", itertools.product(WHEN, ["others", "nothing"]))
 def test_links_are_not_followed(when, target, tmp_path):
-    """Links at the names of logs and records, to a plain file or to nothing, are replaced by the new files."""
+    """Links at the names of logs and records are replaced by the new files, whether they lead to a plain file or to
+    nothing."""
     folder, others = tmp_path / "out", tmp_path / "others"
     folder.mkdir()
     others.write_text("of others\n")
@@ -138,7 +139,7 @@ def mode_of(path):
 
 
 def test_the_lock_file_of_a_folder(tmp_path):
-    """The lock file is readable only for its user, and is removed when its server ends."""
+    """The lock file is readable only by its user, and is removed when its server ends."""
     with serving_alone("can0", out=tmp_path) as server:
         assert mode_of(tmp_path / ".canbusd.lock") == 0o600
         server.end()
@@ -146,7 +147,7 @@ def test_the_lock_file_of_a_folder(tmp_path):
 
 
 def test_a_link_is_no_lock_file_of_a_folder(tmp_path):
-    """A link in place of the lock file is refused, and no file is made at its target."""
+    """A link in place of the lock file is refused, and no file is created at the target of the link."""
     folder = tmp_path / "out"
     folder.mkdir()
     (folder / ".canbusd.lock").symlink_to(tmp_path / "other")
@@ -156,8 +157,8 @@ def test_a_link_is_no_lock_file_of_a_folder(tmp_path):
 
 
 def test_the_lock_file_of_a_path(tmp_path):
-    """The lock file of a socket path is readable only for its user. A link in its place is refused, and no file is made
-    at its target."""
+    """The lock file for a socket path is readable only by its user. A link in its place is refused, and no file is
+    created at the target of the link."""
     path, lock = tmp_path / "bus", tmp_path / "bus.lock"
     words = (program(), "serve", "--until-eof", "--listen", str(path), "can0")
     lock.symlink_to(tmp_path / "other")

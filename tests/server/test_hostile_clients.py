@@ -1,6 +1,5 @@
-"""Tests clients of `canbusd serve` that send anything, disconnect at any time, or read nothing.
-
-After each of them a frame still passes between two sessions on the same bus, and at the end the record is audited.
+"""Tests clients of `canbusd serve` that send random bytes, disconnect at any time, or read nothing. After each of them
+a frame still passes between two sessions on the same bus, and at the end the record is audited.
 """
 
 import contextlib
@@ -52,7 +51,7 @@ WORDS = [
     b"load",
     b"echo",
     b"restart",
-    # Words of fault rules. No rule made of them affects frames of other clients.
+    # Words for fault rules. No rule made of these words affects frames of other clients.
     b"fault",
     b"faults",
     b"nofaults",
@@ -98,7 +97,7 @@ def reset(client):
 
 
 def gone(client, how):
-    """Disconnects in one of three ways."""
+    """Disconnects a client in one of three ways."""
     if how == "reset":
         reset(client)
     elif how == "half closed":
@@ -123,7 +122,7 @@ def nonsense(rng):
 
 
 def test_random_bytes(rng):
-    """The server survives 600 clients that send random bytes and words, in pieces of different sizes."""
+    """The server survives 600 clients that send random bytes and words in pieces of different sizes."""
     with disturbed() as (server, pair):
         for number in range(600):
             client, text = connect(server), nonsense(rng)
@@ -141,7 +140,7 @@ def test_random_bytes(rng):
 
 
 def test_cut_messages():
-    """The server survives a dialogue that ends after any of its bytes, in each of three ways."""
+    """The server survives clients that disconnect after any byte of a dialogue, in each of three ways."""
     with disturbed() as (server, pair):
         for end in range(len(DIALOGUE) + 1):
             for how in ("reset", "closed", "half closed"):
@@ -185,7 +184,8 @@ def test_endless_messages():
 
 
 def test_nobody_takes_the_answers():
-    """If a client sends commands and reads no answers, the server stops reading from it and still serves other clients."""
+    """If a client sends commands and reads no answers, the server stops reading from that client and still serves other
+    clients."""
     with disturbed() as (server, pair):
         for command in (b"< echo >", b"< x >", b"< open can9 >"):
             client = connect(server)
@@ -201,8 +201,8 @@ def test_nobody_takes_the_answers():
 
 
 def test_slow_readers():
-    """Twenty sessions that do not read 3,000 frames delay no other session. Ten of them are reset, and ten then read
-    their frames in order."""
+    """Twenty sessions that do not read 3,000 frames delay no other session. Ten of the twenty are reset, and the other
+    ten then read their frames in order."""
     with disturbed("--rxqueue", "100") as (server, pair):
         slow, sender = [plain(server, "can1") for _ in range(20)], plain(server, "can2")
         assert sender.answer("< filter 0 >") == "< ok >", "the sender"
@@ -222,8 +222,8 @@ def test_slow_readers():
 
 
 def test_silent_connections(rng):
-    """The places of 62 silent connections, and the descriptors of 40 refused ones, are free again after they
-    disconnect."""
+    """The 62 session slots of silent connections, and the file descriptors of 40 refused connections, are free again
+    after these disconnect."""
     with disturbed() as (server, pair):
         before = server.held()
         for _ in range(3):
@@ -246,7 +246,7 @@ def comes_in(server):
 
 
 def test_storms(rng):
-    """Frames still pass while 1,500 clients from 16 threads connect and disconnect in all ways."""
+    """Frames still pass while 1,500 clients from 16 threads connect and disconnect in every way."""
     with disturbed() as (server, pair):
         seeds = [rng.randrange(2**32) for _ in range(16)]
         threads = [threading.Thread(target=storm, args=(server, random.Random(seed), 94)) for seed in seeds]
@@ -270,7 +270,7 @@ def storm(server, rng, count):
 
 
 def test_four_thousand_sessions():
-    """One run serves 4,000 sessions, half of them in raw mode with frames, and its memory grows only by its record."""
+    """One run serves 4,000 sessions, half of them in raw mode with frames, and only its record makes its memory grow."""
     with disturbed() as (server, pair):
         visit(server, 200)
         before = server.memory("VmRSS")
@@ -280,13 +280,13 @@ def test_four_thousand_sessions():
         pair.go_on("3,998 sessions")
         with contextlib.suppress(OSError):
             assert not comes_in(server), "one more comes in"
-    # For half of the sessions the record has four entries, and each entry is also in a list of 4 calls.
+    # For half of the sessions the record has four entries, and each entry is also stored in a list of 4 calls.
     most = (1900 * 4 * 36 + 1900 * 4 * 104) // 1024 + 2048
     assert grown <= most, f"{grown} KB more"
 
 
 def visit(server, count):
-    """Opens this many sessions from 8 threads; every second session enters raw mode."""
+    """Opens `count` sessions from 8 threads; every second session enters raw mode."""
     failed = []
 
     def come(first):
@@ -315,8 +315,8 @@ def visit(server, count):
 
 
 def test_too_few_descriptors():
-    """With more clients than file descriptors for five seconds, the server does not spin. It then accepts the remaining
-    sessions.
+    """While there are more clients than file descriptors, for five seconds, the server does not spin. It then accepts
+    the remaining sessions.
     """
 
     def begin():
@@ -336,5 +336,5 @@ def test_too_few_descriptors():
         with contextlib.suppress(OSError):
             while served <= 200 and comes_in(server):
                 served += 1
-        # A connection that could not be accepted is not a session, so only the pair and the crowd count as sessions.
+        # A connection that could not be accepted does not count as a session. Only the pair and the crowd count.
         assert served == 200 - 2 - 60, f"{served} of 138 sessions are left"

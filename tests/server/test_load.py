@@ -1,15 +1,15 @@
 """Tests `canbusd serve` with faults: of 64 sessions on 4 buses, no frame is lost without being counted.
 
-On each bus of two interfaces 14 sessions send a quarter of the frames (40,000; --frames in the slow test). Each of them
-receives the frames of three others. Two more sessions break off in the middle of a message, are reset or half closed,
-and come back. A script causes faults of every kind, and bursts of faults that take an interface bus off; a session then
-restarts it. At the end:
+On each of the four buses, which have two interfaces, 14 sessions send a quarter of the frames (40,000 in all; --frames
+in the slow test). Each of them receives the frames of three others. Two more sessions break off in the middle of a
+message, are reset or half closed, and connect again. A script causes faults of every kind, and bursts of faults that
+take an interface bus off; a session then restarts the interface. At the end:
 
-- each session got as many frames and error messages as `stats` counts as taken, and a frame twice only after a fault of
-  the last bit. Frames of one session arrived in the order in which it sent them, and frames of one interface in the
-  order in which the server took them. Frames that a session did not get are counted as dropped;
+- each session got as many frames and error messages as `stats` counts as taken, and a frame twice only after a fault in
+  the last bit. Frames from one session arrived in the order in which it sent them, and frames from one interface in the
+  order in which the server accepted them. Frames that a session did not get are counted as dropped;
 - all frames of an interface are done or lost, and the counts of the sessions, the record and `stats` agree;
-- the server ends with status 0, and the audit of each record is ok.
+- the server exits with status 0, and the audit of every record reports ok.
 """
 
 import argparse
@@ -39,7 +39,7 @@ KINDS = [
     "local form {0},{1}",
     "local crc {0},{1}",
 ]
-# Matches an answer, a frame (its identifier, its data and perhaps its origin), or an error message frame.
+# Matches an answer, a frame (its identifier, its data and optionally its origin), or an error message frame.
 TEXT = re.compile(
     rb"< (?:(hi|ok|stats [\d ]+|closed \d+ \d+|error [a-z][a-z ]+)|"
     rb"frame (\w+) \S+ (\w*)(?: (same|other) (\d+))?|error \w{3,8} [\d.]+) >"
@@ -62,11 +62,10 @@ def write_fault_script(path, names, attempts, rng):
 
 
 class Client:
-    """A session that sends frames with its own identifier and receives those of three other sessions.
-
-    `earlier` is the number of broken sessions that had this place before. The server may read the last frames of a
-    broken session after the first frames of the next one, so the order is checked within each session. Half of the
-    sessions ask for the origin of frames, and check the order within an interface too.
+    """A session that sends frames with its own identifier and receives those from three other sessions. `earlier` is
+    the number of broken sessions that used this index before. The server may read the last frames of a broken session
+    after the first frames of the next one, so the order is checked within each session. Half of the sessions request
+    the origin of frames, and check the order within an interface too.
     """
 
     def __init__(self, server, place, names, earlier=0):
@@ -87,7 +86,7 @@ class Client:
         self.socket.sendall(text.encode())
 
     def answer(self):
-        """Returns the next answer. Frames and error messages before it are counted and checked."""
+        """Returns the next answer. Counts and checks the frames and error messages that arrive before it."""
         while not self.answers:
             piece = self.socket.recv(65536)
             assert piece, f"session {self.place} was ended"
@@ -112,7 +111,7 @@ class Client:
             self.copies += is_copy
 
     def comes_again(self, sender, number):
-        """Returns whether the last frame of this sender had the same number; fails if it had a higher one."""
+        """Returns whether the last frame from this sender had the same number; fails if it had a higher one."""
         last = self.last.get(sender, -1)
         assert number >= last, f"session {self.place}: frame {number} of {sender} after {last}"
         self.last[sender] = number
@@ -126,12 +125,12 @@ class Client:
         return "".join(f"{start}{number.to_bytes(4, 'big').hex(' ')} >" for number in numbers)
 
     def stats(self):
-        """Sends `stats`; returns its numbers QUEUED DROPPED TAKEN SENT DONE WAITING LOST REFUSED."""
+        """Sends `stats`; returns the numbers QUEUED DROPPED TAKEN SENT DONE WAITING LOST REFUSED in the reply."""
         self.write("< stats >")
         return self.read_stats()
 
     def read_stats(self):
-        """Returns the numbers of the next reply to `stats`. Counts the sends that were refused before it, and notes
+        """Returns the numbers in the next reply to `stats`. Counts the sends that were refused before it, and stores
         whether bus off was a reason."""
         self.were_off = False
         while not (answer := self.answer()).startswith(b"stats "):
@@ -143,7 +142,7 @@ class Client:
         return [int(word) for word in answer.split()[1:]]
 
     def send(self, count):
-        """Sends this many frames, some of which may be refused, and waits until few frames wait."""
+        """Sends `count` frames, some of which may be refused, and waits until only few frames are waiting."""
         text = self.burst(count)
         self.sent += count
         self.write(text + "< stats >")
@@ -157,8 +156,8 @@ class Client:
             waiting = self.stats()[5]
 
     def drain(self):
-        """Waits until no frame waits and all frames and error messages have arrived; returns the numbers of `stats` at
-        that time.
+        """Waits until no frame is waiting and all frames and error messages have arrived; returns the numbers that
+        `stats` reports then.
         """
         until = time.monotonic() + PATIENCE
         while True:
@@ -201,7 +200,7 @@ def break_off(server, place, names, rng, is_over):
 
 
 def take_place(server):
-    """Opens a connection that sends nothing. The place of a broken session may become free only after a few tries."""
+    """Opens a connection that sends nothing. The slot of a broken session may become free only after a few tries."""
     for _ in turns("a place is free again", PATIENCE):
         client = Plain(server)
         if client.text() == "< hi >":
@@ -246,9 +245,9 @@ class BusLoad:
         self.broken.append(break_off(self.server, place, self.names, random.Random(seed), self.is_over))
 
     def go_through(self, breaking):
-        """Leads all sessions through the steps of the test. The staying sessions connect before others come and go.
-        After those have ended, new connections take their places on every bus, so the server has nothing of the old
-        ones left to read.
+        """Leads all sessions through the steps of the test. The staying sessions connect before others connect and
+        break off. After those have ended, new connections take their slots on every bus, so that the server has read
+        everything that the old ones sent.
         """
         self.steps.wait(PATIENCE)
         self.buses.wait(PATIENCE)
@@ -266,7 +265,7 @@ class BusLoad:
             place.close()
 
     def run(self):
-        """Returns the faults, the results of the sessions that stayed, and the number of broken sessions."""
+        """Returns the faults, the results of the staying sessions, and how many sessions broke off."""
         staying = [threading.Thread(target=self.stay, args=(place,)) for place in range(self.steady)]
         breaking = [
             threading.Thread(target=self.come_and_go, args=(place, self.rng.random()))
@@ -293,8 +292,8 @@ def on_one_bus(*load):
 
 
 class Counted:
-    """The counts of a record: frames sent, finished, lost and refused by each interface; items taken and lost by each
-    socket."""
+    """The counts in a record: frames sent, finished, lost and refused for each interface; items received and lost for
+    each socket."""
 
     def __init__(self, path):
         self.sent, self.done, self.refused, self.lasts, self.offs = [0, 0], [0, 0], [0, 0], 0, 0
@@ -331,8 +330,8 @@ class Counted:
 
 @pytest.mark.parametrize("frames", [40_000, pytest.param(None, marks=pytest.mark.slow, id="--frames")])
 def test_load_with_faults(request, tmp_path, frames):
-    """64 sessions on 4 buses, with faults of every kind and sessions that break off and come back, lose nothing that is
-    not counted."""
+    """Nothing is lost without being counted by 64 sessions on 4 buses, with faults of every kind and sessions that
+    break off and connect again."""
     frames, seed = frames or request.config.getoption("frames"), request.config.getoption("seed")
     buses = []
     for bus in range(BUSES):
@@ -362,7 +361,7 @@ def test_load_with_faults(request, tmp_path, frames):
 
 
 def compare(server, bus, record, ends):
-    """Compares the `stats` of the sessions of a bus with its record."""
+    """Compares the `stats` of the sessions on a bus with the record of the bus."""
     assert server.audited(f"{names_of(bus)[0]}.rec") == record.entries, "the audit counts other entries"
     for side in (0, 1):
         assert (

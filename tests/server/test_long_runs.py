@@ -1,11 +1,10 @@
-"""Tests servers whose logs and records are written while they run, and servers without a record.
-
-Servers under load are killed at random times (10 servers, or 200 with the slow tests). Their files are audited by
-`audit --cut` and by the independent model of record_events.py, and have at least what clients knew two `--flush`
-periods before the kill. Disks fill, stop, fail or are slow (failing_disk.c, compiled with cc and preloaded), or can't
-be written. After 20 million entries the memory is what it was when both blocks of the bus were full. 100,000 ended
-sessions leave nothing in memory. A server under a steady load (--minutes) ends with a correct record. A record is also
-compared with that of a server that has the same dialogue and writes its record at the end.
+"""Tests servers whose logs and records are written while they run, and servers without a record. Servers under load are
+killed at random times (10 servers, or 200 with the slow tests). Their files are audited by `audit --cut` and by the
+independent model of record_events.py. They must contain at least the entries that clients had seen two `--flush`
+periods before the kill. Disks are full, stop, fail or are slow (failing_disk.c, compiled with cc and preloaded), or
+can't be written. After 20 million entries the server uses no more memory than when both blocks of the bus were full.
+100,000 ended sessions leave nothing in memory. A server under a steady load (--minutes) ends with a correct record. A
+record is also compared with that of a server that has the same dialogue and writes its record at the end.
 """
 
 import collections
@@ -34,7 +33,7 @@ pytestmark = pytest.mark.skipif("not writes_live()", reason="the program is olde
 LIVE = ("--record", "live")
 FAST = ("--pace", "0", "--txqueue", "1024", "--rxqueue", "65536", "--write", "16384")
 FLUSH = 0.2
-# The most sessions that end at the same time. A server has places for 64 sessions.
+# How many sessions end at the same time, at most. A server has slots for 64 sessions.
 AT_ONCE = 40
 MOMENT = re.compile(r"\b\d+\.\d{6}\b")
 
@@ -82,7 +81,7 @@ def test_a_folder_that_cannot_be_written(record, tmp_path):
 
 
 def dialogue(server, has_fd):
-    """Has the same dialogue with each server, and waits for each reply and each frame; returns these texts."""
+    """Holds the same dialogue with each server, and waits for each reply and each frame; returns these messages."""
     replies = []
     with contextlib.closing(plain(server, "can0")) as can0, contextlib.closing(plain(server, "can1")) as can1:
         for client in (can0, can1):
@@ -102,8 +101,8 @@ def dialogue(server, has_fd):
 
 @pytest.mark.parametrize("has_fd", [False, True])
 def test_the_record_of_the_same_dialogue(has_fd):
-    """Records written live and at the end differ only in their first two lines. Their logs and the texts to clients are
-    the same.
+    """Records written live and records written at the end differ only in their first two lines. The logs and the
+    messages to clients are the same.
     """
     runs = {}
     for record in ("end", "live", "none"):
@@ -126,7 +125,7 @@ def test_the_record_of_the_same_dialogue(has_fd):
 
 
 def test_each_front_of_a_record_that_a_server_wrote(tmp_path):
-    """A record that is cut at any byte has as many entries as it has whole lines after the first two."""
+    """A record that is cut at any byte has one entry for each complete line after the first two."""
     with serving_alone(*LIVE, "can0,can1") as server:
         dialogue(server, has_fd=True)
         server.end()
@@ -151,8 +150,8 @@ def test_each_front_of_a_record_that_a_server_wrote(tmp_path):
 
 
 def test_the_files_of_a_run_that_goes_on():
-    """The first lines are there from the start, each later line soon after its call, and the end line and the final
-    name at the end."""
+    """The first lines are there from the start, each later line appears soon after its call, and the end line and the
+    final name appear at the end."""
     with serving_alone(*LIVE, "can0,can1", "car0") as server:
         growing = ["can0.log", "can0.rec.new", "car0.log", "car0.rec.new"]
         assert names_in(server.folder) == [".canbusd.lock", *growing]
@@ -173,7 +172,7 @@ def test_the_files_of_a_run_that_goes_on():
 @pytest.mark.parametrize("flush", ["0", "1", "60000"])
 @pytest.mark.parametrize("more", [[], ["--sync"]])
 def test_when_lines_are_handed_over(flush, more):
-    """Lines are written out at once, or at the latest when the server ends."""
+    """Lines are written out either at once, or at the latest when the server ends."""
     with serving_alone(*LIVE, "--flush", flush, *more, "can0,can1") as server:
         pair = Pair(server)
         for _ in range(10):
@@ -211,7 +210,8 @@ def test_without_a_record_and_a_log():
 
 
 def test_what_an_earlier_run_left():
-    """The unfinished record of an earlier run is renamed, with a note, and replaces the one that was renamed before it."""
+    """The unfinished record of an earlier run is renamed, with a note. It replaces an unfinished record that was
+    renamed before."""
     with tempfile.TemporaryDirectory() as folder:
         path = os.path.join(folder, "can0.rec")
         for text in ("of the first run\n" * 10, "of the second\n" * 10):
@@ -229,8 +229,8 @@ def test_what_an_earlier_run_left():
 
 @pytest.mark.parametrize("record", ["end", "live"])
 def test_what_a_start_that_failed_left(record, tmp_path):
-    """A record of a failed start, which has only the first lines, replaces nothing: the record of a killed run stays,
-    and there is no note."""
+    """After a failed start, which leaves a record with only the first lines, nothing is replaced: the record of a
+    killed run remains, and there is no note."""
     text = FRONT + "of a run that was killed\n" * 10
     (tmp_path / "can0.rec.cut").write_text(text)
     (tmp_path / "can0.rec.new").write_text(FRONT)
@@ -283,7 +283,7 @@ def test_a_second_server_by_mistake(first, second):
 
 
 class Reader:
-    """Reads the texts that a client gets, and notes the time of each read and the number of texts so far."""
+    """Reads the messages that a client gets, and stores the time of each read and the number of messages so far."""
 
     def __init__(self, client):
         self.client, self.moments, self.count = client, [], 0
@@ -296,7 +296,7 @@ class Reader:
                 self.moments.append((time.monotonic(), self.count))
 
     def before(self, moment):
-        """Returns the number of texts that had arrived at this time."""
+        """Returns how many messages had arrived by this time."""
         return max((count for when, count in self.moments if when <= moment), default=0)
 
 
@@ -326,7 +326,7 @@ class Load:
                     time.sleep(0.0005)
 
     def under_way(self):
-        """Returns the number of frames that were sent, but lack their reply or have not been received."""
+        """Returns the number of frames that were sent, but whose reply or reception is still missing."""
         return self.sent - min(self.sender.count, self.receiver.count)
 
     def end(self):
@@ -348,7 +348,8 @@ def spelled(number):
 
 def kill_under_load(rng, rate):
     """Kills a server at a random time. Checks that its files are correct and that the next server sets its record
-    aside. Returns the number of entries in the record, and of sends and receives that the clients knew of in time."""
+    aside. Returns how many entries the record has, and how many sends and receives the clients had seen early enough
+    before the kill."""
     with serving_alone(*LIVE, *FAST, "--flush", str(round(1000 * FLUSH)), "can0,can1") as server:
         load = Load(server, rate=rate)
         # This is a random time, not a wait for an event.
@@ -381,8 +382,8 @@ def kill_under_load(rng, rate):
 
 
 def set_aside(server, path, text):
-    """Checks that the next server in the folder of a killed one keeps its record, reports this, and takes over and
-    removes the lock file."""
+    """Checks that the next server in the folder of a killed server keeps the old record, reports this, and takes over
+    and removes the lock file."""
     with serving_alone(*LIVE, "can0,can1", out=server.folder) as after:
         aside = f"{server.folder}/can0.rec.cut"
         after.end(says=f"note: {path} of a run that was cut off is {aside} now")
@@ -391,8 +392,8 @@ def set_aside(server, path, text):
 
 
 def compare_log(log, entries):
-    """Compares the lines of the log with the attempts of the record. One list may be longer than the other. Returns the
-    number of lines of the log."""
+    """Compares the lines of the log with the attempts in the record. One list may be longer than the other. Returns the
+    number of lines in the log."""
     lines = log[: log.rfind("\n") + 1].splitlines()
     tried = [entry.split(" ") for entry in entries if " = tried " in entry]
     wanted = [f"({words[1]:0>17}) can{words[5]} {words[7]}" for words in tried]
@@ -404,8 +405,8 @@ def compare_log(log, entries):
 @pytest.mark.quiet
 @pytest.mark.parametrize("kills", [10, pytest.param(200, marks=pytest.mark.slow)])
 def test_kills_at_random_moments(rng, kills):
-    """Killed servers leave correct files that are not late, under a load of 15,000 entries a second that the server can
-    carry."""
+    """Killed servers leave correct and up-to-date files, under a load of 15,000 entries a second that the server can
+    handle."""
     runs = [kill_under_load(rng, 5000) for _ in range(kills)]
     entries = [one[0] for one in runs]
     print(f"{kills} kills, after {min(entries)} to {max(entries)} entries")
@@ -414,7 +415,7 @@ def test_kills_at_random_moments(rng, kills):
 
 @pytest.mark.parametrize("kills", [2, pytest.param(20, marks=pytest.mark.slow)])
 def test_kills_at_full_speed(rng, kills):
-    """Servers that are killed at full speed leave correct files, which may be late."""
+    """Servers that are killed at full speed leave correct files, which may lag behind."""
     entries = [kill_under_load(rng, float("inf"))[0] for _ in range(kills)]
     print(f"{kills} kills, after {min(entries)} to {max(entries)} entries")
 
@@ -434,8 +435,8 @@ def test_the_service_talks_to_this_machine_only():
 
 
 def test_the_service_keeps_what_the_run_before_it_left(tmp_path):
-    """Before each start the service moves all files of the last run together. If there are none, the files moved before
-    stay."""
+    """Before each start the service moves all files of the last run together. If there are none, the files that were
+    moved earlier remain."""
     settings = settings_of_the_service()
     before = shlex.split(settings["ExecStartPre"].replace("$$", "$"))
 
@@ -497,8 +498,8 @@ def test_a_run_after_one_that_was_killed():
 
 
 def not_whole(server, name="can0.rec.new"):
-    """Returns the number of entries that the server reports for this unfinished record, or None if it has reported
-    nothing."""
+    """Returns the number of entries that the server reports for this unfinished record, or None if it has not reported
+    any."""
     found = re.search(
         rf"^canbusd: write fault\n  \S*{re.escape(name)}: .+\n  it has the first (\d+) entries, and no end$",
         server.said(),
@@ -508,7 +509,7 @@ def not_whole(server, name="can0.rec.new"):
 
 
 def may_grow(most):
-    """Returns a function that limits the size of files to this many bytes; larger writes are refused."""
+    """Returns a function that limits the size of files to `most` bytes; larger writes are refused."""
 
     def begin():
         signal.signal(signal.SIGXFSZ, signal.SIG_IGN)
@@ -518,7 +519,7 @@ def may_grow(most):
 
 
 def fill(server, pair, *ready):
-    """Sends frames until all of `ready` return a value, and then checks that the bus still works."""
+    """Sends frames until no function in `ready` returns None, and then checks that the bus still works."""
     for _ in turns("the disk is full, and nothing is said", 3 * WAIT):
         for _ in range(100):
             pair.go_on()
@@ -529,8 +530,8 @@ def fill(server, pair, *ready):
 
 
 def test_files_that_grow_to_a_limit():
-    """A file that reaches a size limit ends at a whole line, the server reports how much the file has, and the bus goes
-    on."""
+    """A file that reaches a size limit ends with a complete line, the server reports how much the file contains, and
+    the bus continues."""
     most = 20_000
     # The limit also applies to the server's standard error, which stays shorter.
     with serving_alone(*LIVE, "--pace", "0", "can0,can1", "car0,car1", preexec_fn=may_grow(most)) as server:
@@ -548,14 +549,14 @@ def test_files_that_grow_to_a_limit():
 
 
 def log_lines(server):
-    """Returns the number of lines that the server reports for a log that it could not write, or None if it has reported
-    nothing."""
+    """Returns the number of lines that the server reports for a log that it could not write, or None if it has not
+    reported any."""
     found = re.search(r"^canbusd: log of can0: (\d+) whole lines$", server.said(), re.M)
     return int(found[1]) if found else None
 
 
 def check_cut(folder, entries, lines, most):
-    """Checks files that could grow no further: they have whole lines, as many as reported, and no record looks
+    """Checks files that could grow no further: they contain complete lines, as many as reported, and no record looks
     complete."""
     record, log = os.path.join(folder, "can0.rec.new"), os.path.join(folder, "can0.log")
     for path in (record, log):
@@ -583,7 +584,7 @@ def test_a_log_on_a_full_device():
 
 
 class SmallDisk:
-    """A file system of this size in kilobytes, which a user without root rights may mount in a namespace."""
+    """A file system of the given size in kilobytes, which a user without root rights can mount in a namespace."""
 
     def __init__(self, kilobytes, folder):
         script = 'mount -t tmpfs -o size="$1"k none "$2" && echo mounted && exec cat'
@@ -608,7 +609,7 @@ class SmallDisk:
 
 @pytest.fixture
 def disk():
-    """Yields a file system of 128 kilobytes, and its folder."""
+    """Yields a file system of 128 kilobytes, and the folder at which it is mounted."""
     with tempfile.TemporaryDirectory() as folder:
         found = SmallDisk(128, folder) if shutil.which("unshare") and shutil.which("nsenter") else None
         try:
@@ -621,8 +622,8 @@ def disk():
 
 
 def test_a_disk_that_is_full(disk, tmp_path):
-    """On a full disk that several files share, the record ends at a whole line, the server reports this, and the bus
-    goes on."""
+    """On a full disk that several files share, the record ends with a complete line, the server reports this, and the
+    bus continues."""
     small, folder = disk
     launcher, stdin = small.launcher(tmp_path), subprocess.PIPE
     with serving(
@@ -647,7 +648,7 @@ def test_a_disk_that_is_full(disk, tmp_path):
 
 
 class Pipe:
-    """A pipe in place of a file. A test reads it only when it wants to."""
+    """A pipe in place of a file. The test decides when to read from it."""
 
     def __init__(self, path):
         os.mkfifo(path)
@@ -669,12 +670,12 @@ def pipe():
 
 
 def waited(path):
-    """Returns a pattern for the notes of a server whose log is not read in time: one note a minute."""
+    """Returns a pattern for the notes of a server whose log is not read in time. There is one note per minute."""
     return rf"note: bus can0: waits for {re.escape(path)}(\n[^\n]+ waits for {re.escape(path)})*"
 
 
 def test_a_log_whose_reader_goes(pipe):
-    """If the reader of a log goes away, this is reported at once, with the number of lines in the log, and the record
+    """If the reader of a log disconnects, this is reported at once, with the number of lines in the log, and the record
     is complete.
     """
     log, folder = pipe
@@ -696,8 +697,8 @@ def test_a_log_whose_reader_goes(pipe):
 
 
 def test_a_folder_that_is_moved():
-    """A server whose folder is moved goes on writing, and reports that it can't rename its record. The lock file stays
-    in the moved folder."""
+    """A server whose folder is moved continues to write, and reports that it can't rename its record. The lock file
+    stays in the moved folder."""
     with tempfile.TemporaryDirectory() as room:
         folder, other = os.path.join(room, "one"), os.path.join(room, "other")
         os.mkdir(folder)
@@ -716,8 +717,8 @@ def test_a_folder_that_is_moved():
 
 
 def test_what_is_there_in_the_place_of_a_file(tmp_path):
-    """A link at the name where the record is written is removed. A server that can't write one of its files does not
-    listen."""
+    """A link at the name under which the record is written is removed. A server that can't write one of its files does
+    not listen."""
     other = tmp_path / "other"
     other.write_text("of another\n")
     folder = tmp_path / "linked"
@@ -744,7 +745,7 @@ NO_END = 2**63
 
 
 class Disk:
-    """A disk whose calls fail when a test wants that. The tested program has failing_disk.c preloaded."""
+    """A disk whose calls fail when the test requests it. The tested program has failing_disk.c preloaded."""
 
     def __init__(self, folder):
         self.folder = folder
@@ -777,7 +778,7 @@ def failing(tmp_path):
 
 
 def test_when_the_disk_has_what_was_written(failing):
-    """With --sync a server syncs what it has written before it writes anything else. Without --sync it never syncs."""
+    """With --sync a server syncs the data that it has written before it writes more. Without --sync it never syncs."""
     for more in ([], ["--sync"]):
         before = failing.made(SYNC)
         with serving_alone(*LIVE, "--flush", "0", *more, "can0,can1", env=failing.environment) as server:
@@ -794,7 +795,7 @@ def test_when_the_disk_has_what_was_written(failing):
 @pytest.mark.parametrize("call", [WRITE, SYNC])
 @pytest.mark.parametrize("is_cut", [True, False])
 def test_a_disk_that_fails(failing, call, is_cut):
-    """Both files are reported at once, and have as many whole lines as the server reports; the bus goes on."""
+    """Both files are reported at once, and contain as many complete lines as the server reports. The bus continues."""
     with serving_alone(*LIVE, "--sync", "--flush", "0", "can0,can1", env=failing.environment) as server:
         pair = Pair(server)
         for _ in range(5):
@@ -820,11 +821,12 @@ def test_a_disk_that_fails(failing, call, is_cut):
 
 
 def test_a_disk_that_is_slow(failing):
-    """A server notes at most once a minute that it waits for its files, even if each write takes longer than a second."""
+    """A server reports at most once a minute that it waits for its files, even if each write takes longer than a
+    second."""
     environment = {**failing.environment, "DISK_MILLIS": "1100"}
     begun = time.monotonic()
     with serving_alone(*LIVE, "--flush", "0", "can0,can1", env=environment) as server:
-        # The record is written before the log's line, and each of the two writes is late.
+        # The record is written before the line of the log, and each of the two writes is late.
         Pair(server).go_on()
         assert come_true(lambda: read(server.path("can0.log")).count("\n") == 1), "no line of the log"
         status, _ = server.finish(patience=3 * WAIT)
@@ -836,7 +838,7 @@ def test_a_disk_that_is_slow(failing):
 
 @pytest.mark.slow
 def test_a_disk_that_stands_still(pipe):
-    """If nobody reads the log, calls wait and nothing is lost. Once the log is read everything continues, and the wait
+    """If nobody reads the log, calls wait and nothing is lost. Once the log is read, everything continues, and the wait
     is reported.
     """
     log, folder = pipe
@@ -859,8 +861,8 @@ def test_a_disk_that_stands_still(pipe):
 
 
 def wait_for_stall(load):
-    """Waits until no client gets anything for a while, although frames are in flight; returns the number of replies to
-    sends."""
+    """Waits until no client has received anything for a while, although frames are in flight; returns the number of
+    replies to sends."""
     before, looks = -1, 0
     for _ in turns("it makes no more calls", 6 * WAIT):
         count = load.sender.count + load.receiver.count
@@ -873,13 +875,13 @@ def wait_for_stall(load):
 
 @pytest.mark.slow
 def test_memory_of_a_run_without_a_record(pipe):
-    """After 20 million entries the memory is what it was when both blocks of the bus were first full."""
+    """After 20 million entries the server uses no more memory than when both blocks of the bus were first full."""
     log, folder = pipe
     words = ["--record", "none", "--pace", "0", "--txqueue", "1024", "--rxqueue", "4096", "--write", "16384"]
     with serving_alone(*words, "can0,can1", out=folder) as server:
         load = Load(server, many=500)
-        # The bus fills one block while the log waits with the other block. Then they are exchanged: the bus goes on,
-        # and the log waits with the full block.
+        # The bus fills one block while the log waits to write the other block. Then they are exchanged: the bus
+        # continues, and the log waits to write the full block.
         count = wait_for_stall(load)
         for _ in log.pieces():
             if load.sender.count > count:
@@ -916,8 +918,8 @@ def test_more_sessions_than_a_run_has_that_ends(record):
 
 @pytest.mark.parametrize("record", ["live", "none"])
 def test_a_session_counts_once_it_is_raw(record):
-    """Only sessions in raw mode count for --sessions. A session that enters raw mode after the last one is closed, and
-    the server ends with its sessions."""
+    """Only sessions in raw mode count for --sessions. A session that enters raw mode after the last of these is closed,
+    and the server exits when its sessions have ended."""
     with serving_alone("--record", record, "--sessions", "1", "can0,can1") as server:
         for _ in range(3):
             looks = Plain(server)
@@ -935,9 +937,9 @@ def test_a_session_counts_once_it_is_raw(record):
 
 
 def come_and_go(server, count):
-    """Opens this many sessions, each of which opens an interface and closes it. A place is free again after its client
-    sees the end of the session, some 20 milliseconds later. Until then others connect, but never more than a server has
-    places for."""
+    """Opens `count` sessions, one after another; each opens an interface and closes it. A slot is free again after its
+    client sees the end of the session, some 20 milliseconds later. Until then other sessions connect, but never more
+    than the server has slots for."""
     leaving = collections.deque()
     for _ in range(count):
         client = plain(server, "can0")
@@ -957,7 +959,7 @@ def see_off(client):
 
 @pytest.mark.slow
 def test_what_many_sessions_leave():
-    """100,000 ended sessions leave no memory, threads or open files behind."""
+    """100,000 ended sessions leave behind no memory, threads or open files."""
     with serving_alone("--record", "none", "--sessions", "4294967295", "can0,can1") as server:
         held = server.held()
         come_and_go(server, 10_000)
@@ -975,7 +977,7 @@ def test_a_steady_load(request):
     """A server under a load of --entries a second for --minutes ends with a correct record."""
     rate, seconds = request.config.getoption("entries"), 60 * request.config.getoption("minutes")
     with serving_alone(*LIVE, *FAST, "can0,can1") as server:
-        # Each frame makes three entries: a send, an attempt and a receive.
+        # Each frame adds three entries to the record: a send, an attempt and a receive.
         load = Load(server, many=100, rate=rate / 3)
         time.sleep(seconds)
         load.end()

@@ -1,9 +1,7 @@
 """Tests the fault rules that `serve --out` writes next to a record in NAME.rec.faults, so that a reader knows each rule
-of the run.
-
-The tests are a run by hand, byte for byte; sessions that add and end rules while others send, where rule_model.py
-decides each attempt of the record by that file; killed servers; and the files of a folder before and after a run.
-test_audit_rules.py tests what the lines mean.
+of the run. There is a hand-written run that is compared byte for byte. In further tests, sessions add and end rules
+while others send, and rule_model.py decides each attempt in the record by that file. Other tests kill servers, and
+compare the files in a folder before and after a run. test_audit_rules.py tests what the lines mean.
 """
 
 import contextlib
@@ -28,18 +26,18 @@ from serving import ROOT, WAIT, Plain, come_true, join, plain, program, serving_
 WHEN = ("end", "live")
 LIVE = ("--record", "live", "--flush", "0")
 SCRIPT = "always id 7DF good\n"
-#: How many bytes of lines of a bus may wait to be written.
+#: How many bytes of lines may wait to be written for a bus.
 MOST_BYTES = 64 << 20
 
 
 def read(path):
-    """Returns the text of a file with unchanged line ends."""
+    """Returns the content of a file with unchanged line ends."""
     with open(path, encoding="utf-8", newline="") as file:
         return file.read()
 
 
 def whole_lines(path):
-    """Returns the whole lines of a file that may be torn at its end, or an empty text if there is no file."""
+    """Returns the complete lines of a file that may end within a line, or an empty string if there is no file."""
     if not os.path.exists(path):
         return ""
     text = read(path)
@@ -47,7 +45,7 @@ def whole_lines(path):
 
 
 def start(folder, *words, **more):
-    """Starts a server that ends at once; returns its status, output and errors."""
+    """Starts a server that exits at once; returns its status, output and errors."""
     options = "--until-eof", "--listen", "127.0.0.1:0", "--out", str(folder)
     return call(program(), "serve", *options, *words, **more)
 
@@ -58,8 +56,8 @@ def give(client, rule):
 
 
 class Written(RunFaults):
-    """The faults of a run as a server writes them. Each line must have had an effect: a new rule had a place, and a
-    line that ends rules found at least one."""
+    """The faults of a run as a server writes them. Each line must have had an effect: there was room for each new rule,
+    and a line that ends rules ended at least one."""
 
     def take(self, rule):
         assert len(self.rules) < MOST_RULES, f"{rule} was not taken"
@@ -71,7 +69,7 @@ class Written(RunFaults):
 
 
 def decided(record, faults, names):
-    """Returns the rules that decide the attempts of a record with these faults; the rule is empty if none decides.
+    """Returns the rule that decides each attempt of a record with these faults, or an empty rule if none decides.
     Checks that each attempt has the verdict of the model."""
     model, found = Written(faults, names), []
     for line in record.splitlines():
@@ -85,17 +83,17 @@ def decided(record, faults, names):
 
 
 def audited(record, faults, names):
-    """Returns the rules that the audit reports for the attempts of these files."""
+    """Returns the rules that the audit reports for the attempts in these files."""
     words = "--events", "--cut", "--faults", f"{','.join(names)}@{faults}"
     status, events, errors = call(program(), "audit", *words, "--", str(record))
     assert status == 0, errors
     return rules_of(events)
 
 
-# A run by hand. Rules 1 and 2 are in the script, which has no LF at its end. Rule 1 decides attempt 0, the numbered
-# line decides attempt 1, and attempt 2 is good. Rule 3, the first rule given by a client, decides attempt 3, and
-# attempt 4 is good. Then rules 2 and 4 are ended, so attempt 5 is good. Rule 5 decides attempt 6, and attempt 7 is
-# good.
+# A run that was worked out by hand. Rules 1 and 2 are in the script, which has no LF at its end. Rule 1 decides attempt
+# 0, the numbered line decides attempt 1, and attempt 2 is good. Rule 3, the first rule given by a client, decides
+# attempt 3, and attempt 4 is good. Then rules 2 and 4 are ended, so attempt 5 is good. Rule 5 decides attempt 6, and
+# attempt 7 is good.
 BY_HAND = """# of a morning: \u00e9t\u00e9
 
 next 1 from ecu lastbit
@@ -111,13 +109,14 @@ at 8 always good
 
 @pytest.mark.parametrize("when", WHEN)
 def test_a_run(when, tmp_path):
-    """The faults of a run begin with the bytes of its script, even if another bus has other faults or none."""
+    """The faults of a run begin with the bytes of its own script, whether another bus has other faults or none."""
     (tmp_path / "my.script").write_text(BY_HAND, encoding="utf-8")
     words = LIVE if when == "live" else ()
     with serving_alone(*words, f"ecu,tester@{tmp_path}/my.script", "car0,car1", "body0") as server:
 
         def grows(name, text):
-            """Returns whether this file gets this text; always true for a server that writes its files at its end."""
+            """Waits until this file has this content, and returns whether it does. Always true for a server that writes
+            its files when it ends."""
             path = server.path(f"{name}.rec.faults.new")
             return when == "end" or come_true(lambda: whole_lines(path) == text)
 
@@ -129,7 +128,7 @@ def test_a_run(when, tmp_path):
         assert grows("ecu", f"{BY_HAND}\n" + "".join(GIVEN.splitlines(True)[:2]))
         ecu.write("< send 123 0 >")
         assert tester.frame() == ("123", b"")
-        # The second `nofaults` finds no rules, so it writes no line.
+        # The second `nofaults` ends no rules, so it writes no line.
         assert [ecu.answer("< nofaults >"), tester.answer("< nofaults >")] == ["< ok >"] * 2
         assert give(ecu, "next 0 good") == "< error bad rule >"
         assert give(ecu, "next 1 from car0 good") == "< error no such interface >"
@@ -166,7 +165,8 @@ def test_a_run(when, tmp_path):
     ids=["rule", "line", "blank", "comment", "several"],
 )
 def test_the_script_of_the_start(when, script, written, tmp_path):
-    """The faults have the script as it was read at the start, with an LF at its end, even if its file changes later."""
+    """The faults file contains the script as it was read at the start, with an LF at its end, even if the script file
+    changes later."""
     (tmp_path / "my.script").write_text(script, encoding="utf-8")
     with serving_alone("--record", when, f"can0@{tmp_path}/my.script", out=tmp_path) as server:
         (tmp_path / "my.script").write_text("1 global bit\n")
@@ -176,7 +176,7 @@ def test_the_script_of_the_start(when, script, written, tmp_path):
 
 @pytest.mark.parametrize("when", WHEN)
 def test_without_faults(when):
-    """Rules that are refused, and `nofaults` without a rule, make no file."""
+    """If all rules are refused and `nofaults` ends no rule, no faults file is created."""
     with serving_alone("--record", when, "can0,can1") as server:
         one, other = plain(server, "can0"), plain(server, "can1")
         one.write("< send 123 0 >")
@@ -204,7 +204,7 @@ def test_rules_that_are_used_up(when):
         assert give(one, "next 65 good") == "< error too many rules >"
         one.write("< send 123 0 >")
         assert other.frame() == ("123", b"")
-        # The frame has used up the first rule, so one more rule fits.
+        # The frame has used up the first rule, so there is room for one more rule.
         assert [give(one, f"next {number} good") for number in (66, 67)] == ["< ok >", "< error too many rules >"]
         server.end()
         assert read(server.path("can0.rec.faults")) == "".join(
@@ -238,11 +238,12 @@ PACES = [("--pace", "0"), ("--pace", "1"), ("--bitrate", "1000000"), ("--bitrate
 
 class Crowd:
     """Sessions on the buses of a server, each in a thread. Two sessions send at each interface. Two sessions on each
-    bus add and end rules until all frames were sent."""
+    bus add and end rules until all frames have been sent."""
 
     def __init__(self, server, rng, rounds):
         self.is_over, self.faults = threading.Event(), []
-        #: The rules that each bus accepted, and how often its rules were ended, by the bus's first interface.
+        #: The rules that each bus accepted, and how often its rules were ended, by the name of the bus's first
+        #: interface.
         self.taken = {first: [] for first in BUSES}
         self.ended = dict.fromkeys(BUSES, 0)
         works = []
@@ -259,7 +260,7 @@ class Crowd:
             thread.start()
 
     def attend(self, work, client, *words):
-        """Runs this work with a client until the work ends or the server is gone."""
+        """Calls `work` with a client until it returns or the server is gone."""
         try:
             with contextlib.suppress(OSError), contextlib.closing(client):
                 work(client, *words)
@@ -290,7 +291,7 @@ class Crowd:
             time.sleep(maker.random.choice([0, 0, 0.001, 0.004]))
 
     def end(self):
-        """Waits until all frames were sent or the server is gone, and then ends the sessions that give rules."""
+        """Waits until all frames have been sent or the server is gone, and then ends the sessions that give rules."""
         join(self.senders, 4 * WAIT)
         self.is_over.set()
         join(self.givers)
@@ -304,8 +305,7 @@ def end_busy(server):
 
 
 def scripts(maker, folder):
-    """Writes a random script, or none, for each bus; returns the texts, and the words of the command line for the
-    buses."""
+    """Writes a random script, or none, for each bus; returns the scripts, and the arguments for the buses."""
     texts = {first: maker.script(names, 100) if maker.chance(0.7) else "" for first, names in BUSES.items()}
     for first, text in texts.items():
         (folder / f"{first}.script").write_text(text, encoding="utf-8")
@@ -314,14 +314,16 @@ def scripts(maker, folder):
 
 
 def written(folder, first, ending=""):
-    """Reads the record of a bus first and then its faults; returns the whole lines that the server has written of both."""
+    """Reads first the record of a bus and then its faults; returns the complete lines that the server has written to
+    both."""
     path = f"{folder}/{first}.rec"
     return whole_lines(path + ending), whole_lines(f"{path}.faults{ending}")
 
 
 def check(folder, first, script, record, faults):
-    """Checks that the faults are the script and later lines, and that each attempt has the verdict and, in the audit,
-    the rule that the model decides. Returns these rules, and the later lines without their numbers."""
+    """Checks that the faults are the script followed by later lines. Checks that the verdict of each attempt, and the
+    rule that the audit reports for it, are those of the model. Returns these rules, and the later lines without their
+    numbers."""
     names = BUSES[first]
     front = script + "\n" * bool(script and not script.endswith("\n"))
     assert faults.startswith(front)
@@ -347,7 +349,7 @@ def alike(rules, names):
 @pytest.mark.parametrize("count", [1, pytest.param(20, marks=pytest.mark.slow)])
 @pytest.mark.parametrize("when", WHEN)
 def test_rules_that_come_while_others_send(when, count, pace, rng, tmp_path):
-    """The faults have each rule that a bus accepted, at the attempt where it takes effect, and no rule that the bus
+    """The faults file has each rule that a bus accepted, at the attempt where it takes effect, and no rule that the bus
     refused."""
     decisions = 0
     for number in range(count):
@@ -371,7 +373,7 @@ def test_rules_that_come_while_others_send(when, count, pace, rng, tmp_path):
 
 @pytest.mark.parametrize("pace", PACES, ids=" ".join)
 def test_faults_of_a_run_that_goes_on(pace, rng, tmp_path):
-    """At any time during a run, the written faults suffice for the written entries."""
+    """At any time during a run, the faults written so far are enough to explain the entries written so far."""
     texts, buses = scripts(RuleMaker(rng.random()), tmp_path)
     seen = []
     with serving_alone(*LIVE, *pace, "--auto-restart", "3", *buses, out=tmp_path) as server:
@@ -389,8 +391,8 @@ def test_faults_of_a_run_that_goes_on(pace, rng, tmp_path):
 
 @pytest.mark.parametrize("kills", [4, pytest.param(100, marks=pytest.mark.slow)])
 def test_servers_that_are_killed(kills, rng, tmp_path):
-    """A killed server leaves faults that suffice for the written entries, and the next server sets them aside with the
-    record."""
+    """A killed server leaves faults that are enough to explain the written entries, and the next server sets them aside
+    with the record."""
     attempts = 0
     for number in range(kills):
         folder = tmp_path / str(number)
@@ -417,7 +419,7 @@ def test_servers_that_are_killed(kills, rng, tmp_path):
 
 
 def set_aside(folder, files):
-    """Checks that the next server keeps the record of each bus that has entries, together with its faults."""
+    """Checks that for each bus whose record has entries, the next server keeps the record together with its faults."""
     first = [name for name, text in files.items() if name.endswith(".rec.new") and text.count("\n") > 2]
     status, said, errors = start(folder, "--record", "end", *(",".join(names) for names in BUSES.values()))
     assert status == 0 and said.startswith("listening "), errors
@@ -432,30 +434,30 @@ def set_aside(folder, files):
     assert not [name for name in names_in(folder) if name.endswith((".new", ".faults"))]
 
 
-# Folders with files of an earlier run.
+# Folders that contain files from an earlier run.
 
 KILLED = FRONT + "attempt 0.000000 good = idle\n" * 10
 
 
 def leave(folder, **texts):
-    """Writes files of an earlier run. Each keyword is the part of a file name after the name of the bus."""
+    """Writes the files of an earlier run. Each keyword is the part of a file name after the name of the bus."""
     for name, text in texts.items():
         (folder / f"can0.{name.replace('_', '.')}").write_text(text)
 
 
 def left(folder):
-    """Returns the texts of all faults files in a folder, by the part of their names after the bus."""
+    """Returns the contents of all faults files in a folder, by the part of their names after the name of the bus."""
     return {name.removeprefix("can0."): read(folder / name) for name in names_in(folder) if ".rec.faults" in name}
 
 
 def bus_of(folder, script):
-    """Returns the word of the command line for a bus with this script, or without a script if it is empty."""
+    """Returns the argument for a bus with this script, or without a script if it is empty."""
     (folder / "my.script").write_text(script)
     return f"can0@{folder}/my.script" if script else "can0"
 
 
 def mine(script):
-    """Returns the faults files that a run with this script leaves; none if the script is empty."""
+    """Returns the faults files that a run with this script leaves, or none if the script is empty."""
     return {"rec.faults": script} if script else {}
 
 
@@ -487,7 +489,7 @@ def test_what_is_set_aside(when, script, tmp_path):
 @pytest.mark.parametrize("when", WHEN)
 @pytest.mark.parametrize("kind", ["rec.cut", "rec.faults.cut"])
 def test_a_folder_where_something_is_set_aside(when, kind, tmp_path):
-    """If a file of one bus can't be set aside, the start is refused, and nothing of any bus is set aside."""
+    """If a file of one bus can't be set aside, the start is refused, and no file of any bus is set aside."""
     killed = [tmp_path / f"{bus}.{end}" for bus in ("can0", "can2") for end in ("rec.new", "rec.faults.new")]
     for path in killed:
         path.write_text(KILLED if path.name.endswith("rec.new") else f"# of {path.name}\n")
@@ -505,7 +507,7 @@ def test_a_folder_where_something_is_set_aside(when, kind, tmp_path):
 
 
 def start_beside_a_mount(place, folder, *words):
-    """Does the same as `start`, but no file can be renamed to `place`, because something is mounted there."""
+    """Starts a server as `start` does, but no file can be renamed to `place`, because something is mounted there."""
     script = 'mount --bind "$0" "$0" && exec "$@"'
     mount = ["unshare", "--user", "--map-root-user", "--mount", "sh", "-c", script, place]
     if not shutil.which("unshare") or call(*mount, "true")[0] != 0:
@@ -517,8 +519,8 @@ def start_beside_a_mount(place, folder, *words):
 @pytest.mark.parametrize("when", WHEN)
 @pytest.mark.parametrize("kind", ["rec.cut", "rec.faults.cut"])
 def test_a_place_that_is_taken_meanwhile(when, kind, tmp_path):
-    """If a rename fails because its target is taken, the start is refused, but the record and its faults are not lost:
-    the next start sets both aside."""
+    """If a rename fails because something is at its target, the start is refused, but the record and its faults are not
+    lost: the next start sets both aside."""
     leave(tmp_path, rec_new=KILLED, rec_faults_new="# of it\n", rec_cut=FRONT, rec_faults_cut="# of another one\n")
     place = f"{tmp_path}/can0.{kind}"
     status, said, errors = start_beside_a_mount(place, tmp_path, "--record", when, "can0")
@@ -557,7 +559,7 @@ def all_kills(folder, environments, leave_files, *words):
 
 @pytest.mark.parametrize("when", WHEN)
 def test_kills_at_the_end(when, tmp_path, killed_before):
-    """A server that is killed at its end leaves no record next to the faults of another run."""
+    """A server that is killed while it ends leaves no record next to the faults of another run."""
     later = "always id 7DE good\n"
 
     def earlier_run(place):
@@ -644,7 +646,7 @@ def test_links(when, kind, tmp_path):
 
 @pytest.mark.parametrize("when", WHEN)
 def test_a_fifo_where_faults_are_written_first(when, tmp_path):
-    """A fifo at the name where faults are written first is removed, like any other file of that name."""
+    """A fifo at the name that the faults are written to first is removed, like any other file of that name."""
     os.mkfifo(tmp_path / "can0.rec.faults.new")
     assert start(tmp_path, "--record", when, bus_of(tmp_path, SCRIPT))[0] == 0
     assert left(tmp_path) == {"rec.faults": SCRIPT}
@@ -652,7 +654,7 @@ def test_a_fifo_where_faults_are_written_first(when, tmp_path):
 
 @pytest.mark.parametrize("when", WHEN)
 def test_a_fifo_for_faults(when, tmp_path):
-    """A fifo for faults is refused, as for a record, so the server never waits at its end for a reader."""
+    """A fifo is refused as a faults file, just as for a record, so the server never waits for a reader when it ends."""
     os.mkfifo(tmp_path / "can0.rec.faults")
     options = "--until-eof", "--listen", "127.0.0.1:0", "--out", tmp_path, "--record", when
     words = [program(), "serve", *options, bus_of(tmp_path, SCRIPT)]
@@ -662,7 +664,7 @@ def test_a_fifo_for_faults(when, tmp_path):
 
 
 def may_grow(most):
-    """Returns a function that limits the size of files to this many bytes; larger writes are refused."""
+    """Returns a function that limits the size of files to `most` bytes; larger writes are refused."""
 
     def begin():
         signal.signal(signal.SIGXFSZ, signal.SIG_IGN)
@@ -672,8 +674,8 @@ def may_grow(most):
 
 
 def test_a_disk_that_is_full(tmp_path):
-    """Faults that do not fit on the disk are reported. The new record has no faults of another run next to it, and none
-    that look complete."""
+    """Faults that do not fit on the disk are reported. The new record has no faults next to it that belong to another
+    run or that look complete."""
     leave(tmp_path, rec="of an earlier run\n", rec_faults="of its faults\n")
     script = "# a comment\n" * 1000
     status, said, errors = start(tmp_path, "--record", "end", bus_of(tmp_path, script), preexec_fn=may_grow(5000))
@@ -698,8 +700,8 @@ def test_a_disk_that_is_full_at_the_start(tmp_path):
 
 @pytest.mark.parametrize("when", WHEN)
 def test_rules_that_find_no_room(when):
-    """Rules that do not fit on the disk are reported and the bus goes on. No faults are left, because they would lack a
-    rule."""
+    """Rules that do not fit on the disk are reported and the bus continues. No faults file is left, because it would
+    lack a rule."""
     rule = "next 99999999 from can1 id 00000123:1FFFFFFF good"
     words = [*(LIVE if when == "live" else ()), "can0,can1"]
     with serving_alone(*words, preexec_fn=may_grow(5000)) as server:
@@ -715,7 +717,8 @@ def test_rules_that_find_no_room(when):
 
 
 def test_a_kill_after_rules_that_find_no_room(tmp_path):
-    """After a kill the record is set aside without faults, because the written faults lack rules of its entries."""
+    """After a kill the record is set aside without faults, because the written faults lack rules that apply to its
+    entries."""
     with serving_alone(*LIVE, "can0,can1", out=tmp_path, preexec_fn=may_grow(5000)) as server:
         one, other = plain(server, "can0"), plain(server, "can1")
         for _ in range(100):
@@ -734,8 +737,9 @@ def test_a_kill_after_rules_that_find_no_room(tmp_path):
 
 @pytest.mark.parametrize("when", [*WHEN, "none", "nowhere"])
 def test_the_most_lines_that_wait(when):
-    """At most 64 MiB of lines wait for a bus; then rules are refused, and frames go on. The lines are written at the
-    end. Lines that are written while the server runs do not wait, and without a faults file no lines are kept."""
+    """At most 64 MiB of lines wait for each bus. After that, rules are refused, and frames continue. The lines are
+    written when the server ends. Lines that are written while the server runs do not wait, and without a faults file no
+    lines are kept."""
     name = "longest-name.15"
     rule = f"always from {','.join([name] * 60)} good"
     words = ["--record", "end" if when == "nowhere" else when, f"{name},can1"]

@@ -1,4 +1,5 @@
-"""Tests `canbusd serve` with plain sockets: records that fill, clients that disconnect, and the end of a server."""
+"""Tests `canbusd serve` with plain sockets: records that become full, clients that disconnect, and the end of a server.
+"""
 
 import contextlib
 import os
@@ -18,7 +19,7 @@ from serving import ROOT, WAIT, Plain, come_true, join, line_of, plain, program,
 
 
 def test_full_record():
-    """A full record is reported once by the server and to each later call, and no thread spins."""
+    """A full record is reported once by the server, and in the reply to each later call, and no thread spins."""
     with serving("--limit", "5", "can0,can1", "can2") as server:
         can0, can1 = plain(server, "can0"), plain(server, "can1")
         can0.write("< send 123 1 5 >")
@@ -38,7 +39,7 @@ def test_full_record():
 
 
 def test_nearly_full_record():
-    """A record that is nine tenths full is reported once, and the note names the alternatives without a limit."""
+    """A record that is nine tenths full is reported once, and the note names the alternatives that have no limit."""
     note = "note: bus can0: the record is nine tenths full; serve --record live or --record none has no such end"
     with serving("--limit", "50", "--pace", "0", "can0,can1") as server:
         can0, can1 = plain(server, "can0"), plain(server, "can1")
@@ -51,7 +52,7 @@ def test_nearly_full_record():
 
 
 def test_verbose():
-    """With --verbose each client, each opened interface, each end of a session, each bus off and each restart is
+    """With --verbose, every client, every opened interface, every end of a session, every bus off and every restart is
     reported on a line with its time."""
     words = ("--verbose", "--auto-restart", "3", "--pace", "0", f"can0,can1@{ROOT}/examples/bus_off_attack.script")
     with serving(*words) as server:
@@ -113,8 +114,8 @@ def test_verbose_of_another_bus():
         (can1, port), (can0, other) = ports
         can1.write("< send 123 0 >")
         assert come_true(lambda: said_in_turn(server)[-1:] == ["can1: restarted"]), server.said()
-        # There are 38 entries: two sockets, a send, 32 attempts and three until the restart. Each further frame adds
-        # three entries.
+        # There are 38 entries: two opens, a send, 32 attempts, and three more up to the restart. Each further frame
+        # adds three entries.
         for value in range(4):
             can1.write(f"< send 123 1 {value} >")
             assert can0.frame() == ("123", bytes([value])), "not the frame"
@@ -137,7 +138,7 @@ def test_verbose_of_another_bus():
 
 
 def test_record_that_a_delivery_finds_full():
-    """If a receive is the first call that does not fit into the record, this is reported, and both sessions continue."""
+    """If the first call that does not fit into the record is a receive, this is reported, and both sessions continue."""
     with serving("--limit", "4", "--pace", "0", "can0,can1") as server:
         can0, can1 = plain(server, "can0"), plain(server, "can1")
         can0.write("< send 123 1 5 >")
@@ -151,7 +152,7 @@ def test_record_that_a_delivery_finds_full():
 
 
 def test_each_of_64_sessions():
-    """A frame reaches the sockets of all sessions, whatever their numbers."""
+    """A frame reaches the sockets of all sessions, whatever their session numbers are."""
     with serving("--pace", "0", "can0,can1") as server:
         sender, *others = [plain(server, "can0")] + [plain(server, "can1") for _ in range(63)]
         for number in range(3):
@@ -163,8 +164,8 @@ def test_each_of_64_sessions():
 
 
 def test_counts_of_verbose():
-    """With --verbose the report has the lost frames of a session, and the restart that comes after many calls of its
-    session."""
+    """With --verbose, the report contains the number of lost frames of a session, and the restart that follows many
+    calls from that session."""
     words = ("--verbose", "--pace", "0", "--txqueue", "1024", "--rxqueue", "1")
     with serving(*words, f"can0,can1@{ROOT}/examples/bus_off_attack.script", "can2,can3") as server:
         off = plain(server, "can0")
@@ -195,8 +196,8 @@ def test_counts_of_verbose():
 
 @pytest.mark.slow
 def test_raw_sessions_keep_their_places():
-    """If a newcomer finds no free place, a client that was silent for a minute loses its place, but no session in raw
-    mode does."""
+    """If all slots are taken when a client connects, a client that has been silent for a minute loses its slot, but no
+    session in raw mode does."""
     with serving("can0,can1") as server:
         raw = [plain(server, "can0") for _ in range(63)]
         silent = Plain(server)
@@ -220,7 +221,7 @@ def has_ended(client):
 @pytest.mark.parametrize("pieces", ["whole", "byte by byte"])
 @pytest.mark.parametrize("method", ["GET", "POST", "PATCH", "patch", "FOO", "x", "\r\n\r\nGET", " GET"])
 def test_web_page(method, pieces):
-    """A request of any method puts no frame on a bus. Its connection is closed, and that is reported."""
+    """An HTTP request with any method puts no frame on a bus. Its connection is closed, and that is reported."""
     body = "< open can0 >< rawmode >< send 123 0 >"
     request = f"{method} / HTTP/1.1\r\nHost: 127.0.0.1\r\nContent-Length: {len(body)}\r\n\r\n{body}"
     with serving("--verbose", "can0,can1") as server:
@@ -249,7 +250,7 @@ def test_web_page(method, pieces):
 
 @pytest.mark.parametrize("first", ["G", "GET", " GET", "get", " ", "\t\r\n", "x>"])
 def test_no_web_page(first):
-    """A client that begins like a request, but has no blank after its first word, is served."""
+    """A client that begins like an HTTP request, but has no blank after its first word, is served."""
     with serving("can0,can1") as server:
         near, other = Plain(server), plain(server, "can1")
         assert near.text() == "< hi >"
@@ -263,7 +264,7 @@ def test_no_web_page(first):
 
 
 def test_slow_reader():
-    """Frames that a slow client does not read are dropped and counted, and no other client waits for it."""
+    """Frames that a slow client does not read are dropped and counted, and no other client waits for the slow client."""
     with serving(
         "--pace", "0", "--txqueue", "1024", "--rxqueue", "100", "can0,can1", address="./slow.socket"
     ) as server:
@@ -292,7 +293,7 @@ def test_slow_reader():
 
 @pytest.mark.parametrize("most", [256, 1024, 65536])
 def test_bytes_of_a_write(most):
-    """Frames arrive complete and in order, however many the server sends in one write."""
+    """Frames arrive complete and in order, however many bytes the server sends in one write."""
     options = ("--pace", "0", "--txqueue", "1024", "--rxqueue", "65536", "--write", str(most))
     with serving(*options, "can0,can1") as server:
         sender, reader = plain(server, "can0"), plain(server, "can1")
@@ -307,8 +308,8 @@ def test_bytes_of_a_write(most):
 @pytest.mark.skipif(not shutil.which("cc"), reason="no C compiler: cc")
 @pytest.mark.parametrize("words, most", [(["--write", "256"], 256), ([], 1024), (["--write", "3000"], 3000)])
 def test_lengths_of_writes(words, most, tmp_path):
-    """Each write has only complete frames and does not exceed the limit. If many frames wait, a write is longer than
-    half of the limit (noted_sends.c)."""
+    """Each write contains only complete frames and does not exceed the limit. If many frames wait, a write is longer
+    than half of the limit (noted_sends.c)."""
     library, sends = tmp_path / "noted_sends.so", tmp_path / "sends"
     source = os.path.join(ROOT, "tests", "helpers", "noted_sends.c")
     subprocess.run(["cc", "-O2", "-Wall", "-Werror", "-fPIC", "-shared", "-o", library, source], check=True)
@@ -328,7 +329,8 @@ def test_lengths_of_writes(words, most, tmp_path):
 
 
 def test_clients_that_go():
-    """Clients that send half a message, or shut down their sending side, do not stop the frames of other clients."""
+    """Clients that disconnect after half a message, or shut down their sending side, do not stop the frames of other
+    clients."""
     with serving("can0,can1") as server:
         can0, can1 = plain(server, "can0"), plain(server, "can1")
         gone, half = plain(server, "can0"), plain(server, "can1")
@@ -343,7 +345,7 @@ def test_clients_that_go():
 
 
 def test_too_many_sessions():
-    """A server has 64 sessions at once. The 65th is refused and reported."""
+    """A server has at most 64 sessions at once. The 65th is refused and reported."""
     with serving("--verbose", "can0") as server:
         clients = [plain(server, "can0") for _ in range(64)]
         last = Plain(server)
@@ -362,7 +364,8 @@ def test_too_many_sessions():
 
 
 def test_sessions_that_come_and_go():
-    """2,000 sessions that come and go, some in the middle of a message, leave no threads or descriptors behind."""
+    """2,000 sessions that connect and disconnect, some in the middle of a message, leave no threads or descriptors
+    behind."""
     openings = [
         "",
         "< open can0 >",
@@ -372,7 +375,7 @@ def test_sessions_that_come_and_go():
         "< open can0 >< rawmode >" + "< send 7FF 8 1 2 3 4 5 6 7 8 >" * 50,
     ]
     with serving("--pace", "0", "--txqueue", "1024", "can0,can1") as server:
-        # All threads of the server have started after the first client was greeted and has gone.
+        # All threads of the server have started once the first client has been greeted and has disconnected.
         with contextlib.closing(Plain(server)) as visitor:
             assert visitor.text() == "< hi >"
         assert come_true(server.rests), "the server does not come to rest"
@@ -396,7 +399,7 @@ def test_sessions_that_come_and_go():
 
 
 def test_ends_while_busy():
-    """A server that is ended by Ctrl-C while all sessions send and receive leaves complete records."""
+    """A server that is ended with Ctrl-C while all sessions send and receive leaves complete records."""
     for _ in range(5):
         with serving("--pace", "0", "--txqueue", "1024", "--rxqueue", "65536", "can0,can1", "can2,can3") as server:
             clients = [plain(server, f"can{number}") for number in (0, 0, 1, 2, 3)]
@@ -420,8 +423,8 @@ def test_ends_while_busy():
 
 
 def test_unix_path(tmp_path):
-    """A server takes over a socket file without a listener, and removes it at the end. It leaves a socket that is in
-    use."""
+    """A server takes over a socket file without a listener, and removes it at the end. It does not touch a socket that
+    is in use."""
     path = os.path.join(tmp_path, "socket")
     with socket.socket(socket.AF_UNIX) as stale:
         stale.bind(path)
@@ -451,10 +454,8 @@ def connected(server):
 
 
 def heard(connection):
-    """Returns all bytes that a connection receives until its end.
-
-    Sends a byte first: if Linux dropped a new connection on the server's side, the client learns this only when it
-    sends.
+    """Returns all bytes that a connection receives until its end. Sends a byte first, because if Linux dropped a new
+    connection on the server's side, the client is notified of this only when it sends.
     """
     text = b""
     with contextlib.suppress(ConnectionResetError, BrokenPipeError):
@@ -466,7 +467,8 @@ def heard(connection):
 
 @pytest.mark.slow
 def test_ends_in_bursts():
-    """1,000 servers that are ended while clients connect all end, and each client gets a greeting or nothing."""
+    """1,000 servers are ended while clients connect. Every server exits, and each client gets either a greeting or
+    nothing."""
     for number in range(1000):
         path = "./burst.socket" if number % 2 else "127.0.0.1:0"
         with contextlib.ExitStack() as stack:
@@ -488,7 +490,8 @@ def test_ends_in_bursts():
 
 
 def test_door_after_the_last_session():
-    """After the last of --sessions has begun, new clients are refused at once, and so is a waiting client."""
+    """After the last session that --sessions allows has begun, new clients are refused at once, and so is a waiting
+    client."""
     for address in ("127.0.0.1:0", "./last.socket"):
         with serving_alone("--sessions", "1", "can0", address=address) as server:
             if ":" not in address:
@@ -522,14 +525,14 @@ def test_attempts_in_vain_at_the_end(tmp_path):
 
 
 def test_own_socket_file(tmp_path):
-    """A server removes only its own socket file, and a path belongs to one server."""
+    """A server removes only its own socket file, and only one server can use a path."""
     path = os.path.join(tmp_path, "socket")
 
     def second():
         return call(program(), "serve", "--listen", path, "can0")[0]
 
-    # A server that asks for the path does not count as a session of the first server, even if the first server is
-    # stopped.
+    # A server that checks whether the path is in use does not count as a session of the first server, even if the first
+    # server is stopped.
     with serving_alone("--sessions", "1", "can0", address=path) as server:
         assert second() == 1, "two servers have one path"
         os.kill(server.child.pid, signal.SIGSTOP)
@@ -544,7 +547,7 @@ def test_own_socket_file(tmp_path):
         os.kill(server.child.pid, signal.SIGCONT)
         assert server.child.wait(WAIT) == 0, "the end"
     assert os.listdir(tmp_path) == [], f"{os.listdir(tmp_path)} is left"
-    # A file that has replaced the socket stays.
+    # A file that has replaced the socket is not removed.
     for kind in ("file", "socket"):
         with serving_alone("can0", address=path) as server:
             os.unlink(path)
@@ -558,7 +561,8 @@ def test_own_socket_file(tmp_path):
                 server.end()
                 assert os.listdir(tmp_path) == ["socket"], f"{os.listdir(tmp_path)} is left of a {kind}"
         os.unlink(path)
-    # A killed server leaves its socket file to the next server. If two servers start at once, one of them gets it.
+    # The next server takes over the socket file of a killed server. If two servers start at once, only one of them gets
+    # it.
     for _ in range(100):
         with serving_alone("can0", address=path) as server:
             server.child.kill()
@@ -581,8 +585,8 @@ def test_own_socket_file(tmp_path):
 
 
 def test_folder_of_a_server(tmp_path):
-    """A folder that accepts no files is refused before the server listens. Files of an earlier run stay until the new
-    files are complete."""
+    """A folder in which no file can be created is refused before the server listens. Files of an earlier run remain
+    until the new files are complete."""
     none = os.path.join(tmp_path, "none")
     words = [program(), "serve", "--listen", "127.0.0.1:0", "--until-eof", "--out"]
     said = f"canbusd: cannot open {none}\n  {none}/can0.rec.new: No such file or directory (os error 2)\n"
@@ -605,7 +609,7 @@ def test_folder_of_a_server(tmp_path):
 
 
 def test_links_of_a_folder(tmp_path):
-    """A link that somebody else made at a name that a server writes to first is removed and not followed."""
+    """A link that somebody else created at a name that a server writes to first is removed and not followed."""
     words = [program(), "serve", "--listen", "127.0.0.1:0", "--until-eof", "--out", str(tmp_path), "can0"]
     others = tmp_path / "others"
     others.write_text("of others\n")

@@ -1,4 +1,5 @@
-"""Tests `canbusd serve --bitrate`: the times of frames on the bus of a server, and the times when clients get them."""
+"""Tests `canbusd serve --bitrate`: the times of frames on the bus of a server, and the times at which clients get them.
+"""
 
 from __future__ import annotations
 
@@ -22,20 +23,20 @@ from timed_benches import MICRO, bench, moment, random_frame, rate_options, send
 from wire_model import Frame
 from wire_times import IDLE, SECOND, Ending, Rates
 
-# By how much a client's clock may differ from the server's, in seconds. Both show the system's time at the start.
+# By how much a client's clock may differ from the server's, in seconds. Both are set to the system's time at the start.
 CLOCKS = 0.001
 EIGHT_BYTES = Frame.read("123#1122334455667788")
-# How many frames wait in a queue. The client keeps the queue full unless it is later than the time that these frames
+# How many frames wait in a queue. The client keeps the queue full unless it is late by more time than these frames
 # take.
 WINDOW = 1024
 
 
 class TooBusy(Exception):
-    """The machine was too busy, so the server was late."""
+    """The machine was too busy, so the server ran late."""
 
 
 def patiently(test: Callable[..., None]) -> Callable[..., None]:
-    """Runs the test up to three times, until the machine is not too busy."""
+    """Runs the test up to three times, until the machine is not too busy for it."""
 
     @functools.wraps(test)
     def tried(**fixtures: object) -> None:
@@ -50,7 +51,7 @@ def patiently(test: Callable[..., None]) -> Callable[..., None]:
 
 
 def end_in_time(server: Server) -> None:
-    """Ends a server; raises TooBusy if the server was late."""
+    """Ends a server; raises TooBusy if the server ran late."""
     status, _ = server.finish()
     said = server.said()
     if said:
@@ -63,7 +64,7 @@ def micros(text: str) -> int:
 
 
 def replayed(path: str, rates: Rates) -> str:
-    """Replays the times of a record with its bit rates, which must give no finding; returns the report."""
+    """Replays the times in a record with its bit rates, which must yield no finding; returns the report."""
     words = [sys.executable, "-m", "canbusd", "replay", "--quiet", *rate_options(rates), path]
     done = subprocess.run(words, capture_output=True, text=True, timeout=120, check=False)
     assert (done.returncode, done.stderr) == (0, ""), done.stderr
@@ -71,7 +72,7 @@ def replayed(path: str, rates: Rates) -> str:
 
 
 def attempts(server: Server, name: str = "can0") -> list[tuple[int, str]]:
-    """Returns the attempts in the record of a bus: the time in microseconds, and the line."""
+    """Returns the attempts in the record of a bus: for each, the time in microseconds and the line."""
     with open(server.path(f"{name}.rec"), encoding="utf-8") as record:
         lines = [line for line in record if line.startswith("attempt ")]
     return [(micros(line.split(" ")[1]), line) for line in lines]
@@ -85,7 +86,7 @@ def quiet(server: Server, name: str) -> Plain:
 
 
 def waiting(client: Plain) -> int:
-    """Returns the number of frames that wait at the session's interface."""
+    """Returns how many frames wait at the session's interface."""
     return int(client.answer("< stats >").split(" ")[7])
 
 
@@ -104,7 +105,7 @@ def received(client: Plain) -> int:
 @patiently
 @pytest.mark.parametrize("nominal", [5_000, 125_000, 1_000_000])
 def test_moments_are_those_of_the_bench(nominal: int, rng: random.Random) -> None:
-    """Waiting frames follow one another without gaps, with the same times as on a bench whose time is set to the first
+    """Waiting frames follow one another without gaps, at the same times as on a bench whose time is set to the first
     send."""
     rates = Rates(nominal, rng.choice([None, nominal, 8 * nominal]))
     frames = [random_frame(rng) for _ in range(12)]
@@ -120,13 +121,14 @@ def test_moments_are_those_of_the_bench(nominal: int, rng: random.Random) -> Non
     options = [*rate_options(rates), "--txqueue", "1024"]
     written = [line.split(" at ")[1] for line in bench(program(), options, ["can0", "can1"], lines)]
     assert moments == made == [micros(text) for text in written]
-    # The bus is busy all the time, except for the last intermission and the rounding of times.
+    # The bus is busy all the time, except during the last intermission and for the rounding of times.
     assert re.match(r"load (?:100\.0|99\.\d) %: ", said), said
 
 
 @patiently
 def test_each_bus_has_bit_rates_of_its_own(rng: random.Random) -> None:
-    """A bit rate with a name applies to the bus of that name, and a bit rate without a name to all other buses."""
+    """A bit rate with a name applies to the bus with that name, and a bit rate without a name applies to all other
+    buses."""
     buses = {"can0": Rates(500_000, 2_000_000), "body0": Rates(125_000, 2_000_000), "fd0": Rates(500_000, 8_000_000)}
     words = "--bitrate 500000 --dbitrate fd1=8000000 --bitrate body1=125000 --dbitrate 2000000 --txqueue 1024".split()
     frames = [random_frame(rng) for _ in range(12)]
@@ -153,7 +155,7 @@ def test_each_bus_has_bit_rates_of_its_own(rng: random.Random) -> None:
 @pytest.mark.quiet
 @patiently
 def test_a_bus_without_bit_rate_is_beside_one_with_it() -> None:
-    """A bus without a bit rate, next to a bus with one, runs at --pace, and its load is 0."""
+    """If only one of two buses has a bit rate, the other bus runs at --pace, and its load is 0."""
     with serving("--bitrate", "body0=5000", "can0,can1", "body0,body1") as server:
         can0, can1, body0 = plain(server, "can0"), plain(server, "can1"), plain(server, "body0")
         assert [one.answer("< load >") for one in (can0, body0)] == ["< load 0 0 0 0 >", "< load 0 0 5000 5000 >"]
@@ -168,7 +170,8 @@ def test_a_bus_without_bit_rate_is_beside_one_with_it() -> None:
 
 @patiently
 def test_random_frames_and_faults(rng: random.Random) -> None:
-    """If two nodes send with pauses and some attempts fail, no attempt begins before the end of the previous one."""
+    """If two nodes send with pauses and some attempts fail, every attempt begins at or after the end of the previous
+    one."""
     rates = Rates(500_000, 2_000_000)
     with serving(*rate_options(rates), "--txqueue", "100", "--auto-restart", "128", "can0,can1") as server:
         clients = [quiet(server, "can0"), quiet(server, "can1")]
@@ -189,7 +192,7 @@ def test_random_frames_and_faults(rng: random.Random) -> None:
 @patiently
 @pytest.mark.parametrize("nominal", [5_000, 500_000])
 def test_nobody_gets_a_frame_before_its_end(nominal: int) -> None:
-    """A client gets a frame only after the frame's end, so an answer begins after that."""
+    """A client gets a frame only after the end of the frame, so an answer to it begins later."""
     rates, frame = Rates(nominal), EIGHT_BYTES
     lasts = rates.frame_nanos(frame) / SECOND
     with serving(*rate_options(rates), "can0,can1") as server:
@@ -210,7 +213,7 @@ def test_nobody_gets_a_frame_before_its_end(nominal: int) -> None:
 @pytest.mark.quiet
 @patiently
 def test_sender_gets_its_frame_at_its_end() -> None:
-    """A sender gets its own frame by loopback only after the frame's end, but the reply to the send at once."""
+    """A sender gets its own frame by loopback only after the end of the frame, but gets the reply to the send at once."""
     rates, frame = Rates(5_000), Frame.read("123#11")
     with serving("--bitrate", "5000", "can0") as server:
         can0 = plain(server, "can0")
@@ -225,7 +228,7 @@ def test_sender_gets_its_frame_at_its_end() -> None:
 
 @patiently
 def test_recovery_takes_128_times_11_bits() -> None:
-    """An interface that goes bus off on an idle bus returns 128 * 11 bits after its last attempt."""
+    """An interface that goes bus off on an idle bus is active again 128 * 11 bits after its last attempt."""
     rates, frame = Rates(20_000), Frame.read("123#11")
     with serving("--bitrate", "20000", "--auto-restart", "128", "can0,can1") as server:
         can0 = plain(server, "can0")
@@ -245,7 +248,7 @@ def test_recovery_takes_128_times_11_bits() -> None:
 
 
 def test_late_server_leaves_out_what_it_missed() -> None:
-    """A server that was stopped reports its delay once a minute for each bus, and continues from the current time."""
+    """A server that was stopped reports its delay once a minute for each bus, and continues at the current time."""
     rates = Rates(50_000)
     usual = rates.attempt_nanos(EIGHT_BYTES) // MICRO
     with serving_alone(*rate_options(rates), "--txqueue", "1024", "--verbose", "car0", "can0,can1") as server:
@@ -274,7 +277,7 @@ def test_late_server_leaves_out_what_it_missed() -> None:
 @pytest.mark.skipif(not shutil.which("cc"), reason="no C compiler: cc")
 @pytest.mark.parametrize("words, later", [(["--bitrate", "500000"], 0), ([], 3600)])
 def test_a_clock_that_is_set(words: Sequence[str], later: int, tmp_path: pathlib.Path) -> None:
-    """If the clock is set by an hour (set_clock.c), times with a bit rate continue as before, and times without one
+    """If the clock is changed by an hour (set_clock.c), times with a bit rate continue as before, and times without one
     follow the clock."""
     library, changed = tmp_path / "set_clock.so", tmp_path / "changed"
     source = os.path.join(ROOT, "tests", "helpers", "set_clock.c")
@@ -298,7 +301,8 @@ def test_a_clock_that_is_set(words: Sequence[str], later: int, tmp_path: pathlib
 @pytest.mark.quiet
 @patiently
 def test_end_waits_for_no_frame() -> None:
-    """At the end, waiting frames are tried with the times that they would have had, and the server ends at once."""
+    """When a server ends, waiting frames are tried with the times that they would have had, and the server exits at
+    once."""
     rates = Rates(5_000)
     with serving(*rate_options(rates), "--txqueue", "1024", "can0,can1") as server:
         can0 = quiet(server, "can0")
@@ -317,7 +321,7 @@ def test_end_waits_for_no_frame() -> None:
 @patiently
 @pytest.mark.parametrize("words", [[], ["--record", "none"]])
 def test_nothing_spins(words: Sequence[str]) -> None:
-    """The server uses almost no processor time while no frame waits, and little while frames last."""
+    """The server uses almost no processor time while no frame waits, and little while frames are on the bus."""
     with serving_alone("--bitrate", "5000", *words, "can0,can1") as server:
         can0 = plain(server, "can0")
         can0.write(send(EIGHT_BYTES))
@@ -344,8 +348,8 @@ class Filling:
         self.sender.socket.sendall(count * self.text)
 
     def take(self) -> tuple[float, float]:
-        """Waits for frames, reads all that have arrived, and sends as many. Returns the time of the last arrival, and
-        the frame's timestamp."""
+        """Waits for frames, reads all that have arrived, and sends the same number of frames. Returns the arrival time
+        and the timestamp of the last frame."""
         whole = 0
         while not whole:
             self.left += self.receiver.socket.recv(1 << 20)
@@ -355,7 +359,7 @@ class Filling:
         return came, float(taken.split()[-3])
 
     def run(self, seconds: float) -> list[tuple[float, float]]:
-        """Returns the arrival times and timestamps of frames during this many seconds, after the bus is full."""
+        """Returns the arrival times and timestamps of frames during this many seconds, once the bus is full."""
         self.send(WINDOW)
         begun, arrivals = time.monotonic() + 1, [self.take()]
         while arrivals[-1][0] < begun + seconds:
@@ -364,8 +368,8 @@ class Filling:
 
 
 def least_late(arrivals: list[tuple[float, float]]) -> tuple[float, float]:
-    """Returns the arrival time and the delay of the frame that was least late. The delay includes the difference of two
-    clocks. On a busy machine other frames are later, but none arrives early."""
+    """Returns the arrival time and the delay of the frame with the smallest delay. The delay includes the difference
+    between the two clocks. On a busy machine other frames arrive later, but none arrives early."""
     late, came = min((came - moment, came) for came, moment in arrivals)
     return came, late
 
@@ -376,7 +380,7 @@ def least_late(arrivals: list[tuple[float, float]]) -> tuple[float, float]:
     "nominal", [500_000, *(pytest.param(rate, marks=pytest.mark.slow) for rate in (125_000, 1_000_000))]
 )
 def test_mean_rate(nominal: int) -> None:
-    """A full bus has its bit rate within 0.1 % over ten seconds, so the timestamps agree with the clock."""
+    """A full bus reaches its bit rate within 0.1 % over ten seconds, so the timestamps agree with the clock."""
     rates, sizes = Rates(nominal), ["--txqueue", str(WINDOW), "--rxqueue", "65536", "--write", "16384"]
     with serving(*rate_options(rates), *sizes, "can0,can1") as server:
         arrivals = Filling(server, EIGHT_BYTES).run(11)

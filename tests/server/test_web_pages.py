@@ -1,7 +1,7 @@
-"""A page in a browser can't put frames on a bus, because its requests to the server's port do not begin like a client.
-
-A page of another site may send by `fetch` with mode `no-cors` without any permission. It may not read the response, but
-it does not need to. After DNS rebinding a page has the server's own origin, and may choose any method.
+"""A page in a browser can't put frames on a bus, because its requests to the server's port do not begin as a client's
+messages do. A page from another site may send by `fetch` with mode `no-cors` without any permission. It may not read
+the response, but it does not need to. After DNS rebinding a page has the server's own origin, and may choose any
+method.
 """
 
 import contextlib
@@ -20,7 +20,7 @@ from serving import WAIT, come_true, plain, serving
 # Chromium takes up to half a minute to start on a busy machine.
 PATIENCE = 60
 MESSAGES = "< open can0 >< rawmode >< send 123 1 11 >"
-# Chromium opens no connection to ports below 1024 and to some other ports; the server's port is none of these.
+# Chromium refuses to connect to ports below 1024 and to some other ports; the server's port is none of these.
 PAGE = """<!DOCTYPE html>
 <script>
 async function tries() {
@@ -42,7 +42,7 @@ tries();
 
 
 class Pages(http.server.ThreadingHTTPServer):
-    """Serves the page, and notes when its script runs and when the script has ended."""
+    """Serves the page, and stores when its script begins and when it has ended."""
 
     daemon_threads = True
 
@@ -100,7 +100,7 @@ def browsing(port, folder):
 
 
 def sent(server):
-    """Returns the number of frames that can0 has accepted, as the server reports it."""
+    """Returns the number of frames that the server says it has accepted at can0."""
     client = plain(server, "can0")
     counts = client.answer("< stats >").split()
     client.close()
@@ -153,7 +153,7 @@ def test_a_page_of_the_same_origin_sends_no_frames(tmp_path):
 
 
 METHODS = ("GET", "POST", "OPTIONS", "PUT", "HEAD", "DELETE", "PATCH", "CONNECT", "TRACE", "get", "patch", "FOO", "x")
-# The first bytes that programs other than clients send, up to the messages.
+# The first bytes that programs other than clients of canbusd send, followed by messages in the test.
 STRANGERS = {
     **{f"{method} of HTTP": f"{method} / HTTP/1.1\r\nHost: x\r\n\r\n".encode() for method in METHODS},
     "HTTP after blank lines": b"\r\n\r\nGET / HTTP/1.1\r\n\r\n",
@@ -173,7 +173,8 @@ STRANGERS = {
 
 
 def heard_after(server, pieces):
-    """Sends these pieces on a new connection; returns all bytes received until its end or the first `< ok >`."""
+    """Sends these pieces on a new connection; returns all bytes that are received up to the end of the connection or
+    the first `< ok >`."""
     heard = b""
     with socket.create_connection((server.host, server.port), WAIT) as connection:
         connection.setsockopt(socket.IPPROTO_TCP, socket.TCP_NODELAY, 1)
@@ -189,7 +190,8 @@ def heard_after(server, pieces):
 @pytest.mark.parametrize("size", [4096, 1], ids=["whole", "cut"])
 @pytest.mark.parametrize("first", STRANGERS.values(), ids=STRANGERS)
 def test_a_stranger_is_not_heard(server, first, size):
-    """The connection of a stranger ends without a reply to any of its messages, and other clients are served as before."""
+    """The connection of a program that is not a client of canbusd is closed without a reply to any of its messages, and
+    other clients are served as before."""
     text = first + MESSAGES.encode()
     heard = heard_after(server, [text[start : start + size] for start in range(0, len(text), size)])
     assert heard in (b"", b"< hi >")
@@ -210,7 +212,7 @@ CLIENTS = {
 @pytest.mark.parametrize("size", [4096, 1], ids=["whole", "cut"])
 @pytest.mark.parametrize("first", CLIENTS.values(), ids=CLIENTS)
 def test_a_client_is_heard(server, first, size):
-    """A client is served even if blanks, control bytes or text come before or between its messages."""
+    """A client is served even if blanks, control bytes or other characters come before or between its messages."""
     text = first + b"< open can0 > GET / \0 < rawmode >< send 123 1 11 >"
     with socket.create_connection((server.host, server.port), WAIT) as connection:
         for start in range(0, len(text), size):
