@@ -1,5 +1,5 @@
 #!/bin/sh
-# Runs an installed canbusd: the program in ../libexec/canbusd, or for `serve` and the commands of the Python package
+# Runs an installed canbusd: the program in ../libexec/canbusd. For `serve` and the commands of the Python package, runs
 # the scripts in the same folder.
 set -eu
 # A write beyond `ulimit -f` fails and is reported; without this line SIGXFSZ would end the program.
