@@ -154,8 +154,7 @@ def make_record(path, kind, attempts, program, folder):
 
 
 def measured(words, folder, **variables):
-    """Runs a command. Returns the processor seconds, the wall time, the memory in megabytes, and a hash of the output.
-    """
+    """Runs a command. Returns the processor seconds, wall time, memory in megabytes, and a hash of the output."""
     variables = {**os.environ, **variables, "PYTHONPYCACHEPREFIX": os.path.join(folder, "bytecode")}
     variables.pop("PYTHONDONTWRITEBYTECODE", None)
     begin = time.monotonic()

@@ -73,8 +73,7 @@ PYTEST = 'mkdir "$OUT"; cd "$OUT"; "$PYTHON" -m pytest -q -p canbusd.pytest_plug
 
 
 def run(name, script, seconds, folder):
-    """Runs a script for `seconds` seconds of bus time. Returns the processor time and the number of scheduling turns.
-    """
+    """Runs a script for `seconds` seconds of bus time. Returns the processor time and how many turns there were."""
     env = {**os.environ, "RUN": RUN, "CASES": CASES, "NODES": folder, "FRAMES": str(seconds * 100)}
     env.setdefault("CANBUSD", os.path.join(ROOT, "dist", "canbusd"))
     env.update(PYTHON=sys.executable, PYTHONPATH=os.path.join(ROOT, "python", "src"), CANBUSD_RUN=RUN)

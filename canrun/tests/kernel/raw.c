@@ -1,14 +1,14 @@
 /* Writes and reads on CAN_RAW sockets. */
 #include "probe.h"
 
-/* A frame of 3 bytes in a larger buffer, and a -1 that the compiler does not know. */
+/* A frame of 3 bytes in a larger buffer, and a -1 that is hidden from the compiler. */
 static const union {
     struct canfd_frame frame;
     char room[100];
 } wide = {{.can_id = 0x123, .len = 3, .data = {1, 2, 3}}};
 static volatile int minus_1 = -1;
 
-/* Writes this many bytes to a socket without FD frames, and to a socket with FD frames. */
+/* Writes `length` bytes to a socket without FD frames, and to a socket with FD frames. */
 #define WRITES(name, length)                                                                          \
     CASE(name, a = raw("can0"), b = raw("can1"), with_fd(b), DO(write(a, &wide, length)), with_fd(a), \
          DO(write(a, &wide, length)), take(b, (length) == 16 || (length) == 72 ? 1 : 0))

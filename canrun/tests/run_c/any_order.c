@@ -1,6 +1,6 @@
-/* A socket on all interfaces receives the frames in order, from the first frame on: a gateway's answer comes after the
- * frame that caused it, and timestamps never decrease. There are two buses, and on each a second interface on which the
- * program listens. */
+/* A socket on all interfaces receives the frames in order, starting with the first frame: a gateway's answer comes
+ * after the frame that caused it, and timestamps never decrease. There are two buses, and the program also listens on a
+ * second interface of each bus. */
 #include "check.h"
 #include <pthread.h>
 

@@ -1,5 +1,5 @@
 /* The broadcast manager, as in Documentation/networking/can.rst and linux/can/bcm.h: cyclic frames, content filters,
- * timeouts, the throttle, replies to remote frames, and each errno. */
+ * timeouts, the throttle, replies to remote frames, and every errno. */
 #include "check.h"
 
 struct message {

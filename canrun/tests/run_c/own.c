@@ -21,7 +21,7 @@ static void take_turns(int self, int beside, int other) {
     for (int i = 0; i < TURNS; i++) {
         senders[i] = i % 3 == 0 ? self : i % 3 == 1 ? beside : other;
         send_patiently(senders[i], 0x7, 7);
-        /* Waits for each frame, so that the frames are sent in this order although the interfaces differ. */
+        /* Waits for each frame to arrive, so that the frames are sent in this order although the interfaces differ. */
         int own = senders[i] == self ? MSG_CONFIRM | MSG_DONTROUTE : senders[i] == beside ? MSG_DONTROUTE : 0;
         CHECK(flags_of_next(self, 7) == own);
         CHECK(senders[i] == beside || flags_of_next(beside, 7) == (own & MSG_DONTROUTE));

@@ -27,7 +27,7 @@ static void *write_in_vain(void *error) {
     *writer = gettid();
     FAILS(write(fd, &frame, sizeof frame), *(int *)error);
     CHECK(is_ended);
-    /* If a program ignores that its handler has run, its next writes do not wait. */
+    /* If a program continues to write after its handler has run, its next writes do not wait. */
     for (int i = 0; i < 20; i++) {
         FAILS(write(fd, &frame, sizeof frame), ENOBUFS);
     }

@@ -1,5 +1,6 @@
-/* Writes that do not use the functions of sockets. Each sends exactly the frame, or is refused as by the kernel. If the
- * library does not see a write, a refusal is reported as the socket's error, after a line on standard error. */
+/* Writes that do not use the socket functions. Each write sends exactly its frame, or is refused as the kernel would
+ * refuse it. If the library does not see a write, a refusal is reported as the socket's error, after a line on standard
+ * error. */
 #include "check.h"
 #include <fcntl.h>
 #include <linux/can/isotp.h>

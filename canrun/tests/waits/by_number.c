@@ -1,4 +1,4 @@
-/* Waits by syscall(2): calls by number, and waits on a word, futex(2). */
+/* Waits that are called by number with syscall(2), and waits on a word with futex(2). */
 #include "waits.h"
 
 #include <fcntl.h>
@@ -181,7 +181,7 @@ static void *wait_for_bits(void *bits) {
     return bits;
 }
 
-/* The bits select the second thread, although the other one has waited longer. */
+/* The bitset selects the second thread, although the other thread has waited longer. */
 static void by_number_futex_bits(void) {
     pthread_t threads[2];
     for (intptr_t i = 0; i < 2; i++) {

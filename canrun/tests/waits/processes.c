@@ -1,4 +1,4 @@
-/* Ways to start processes, and waits until they end. */
+/* Ways to start processes, and waits for their end. */
 #include "waits.h"
 
 #include <fcntl.h>

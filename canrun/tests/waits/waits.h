@@ -28,7 +28,7 @@ struct wait {
     void (*call)(void);
 };
 
-/* The tables of waits. Each ends with an entry without a name. */
+/* The tables of waits. Every table ends with an entry without a name. */
 extern const struct wait sleeps[], polls[], signals[], awaited[], signalfds[], cancels[], locks[], conditions[],
     threads[], timers[], timerfds[], files[], queues[], sockets[], processes[], by_number[];
 
@@ -45,10 +45,10 @@ void note(const char *format, ...) __attribute__((format(printf, 1, 2)));
 struct timespec in_ms(int ms);
 struct timespec after_ms(clockid_t id, int ms);
 
-/* Calls this function in another thread after this many milliseconds. */
+/* Calls this function in another thread after `ms` milliseconds. */
 void later(int ms, void (*call)(void *), void *of);
 
-/* Sends SIGALRM after this many milliseconds. The handler has these flags, and counts the signals. */
+/* Sends SIGALRM after `ms` milliseconds. The handler has these flags, and counts the signals. */
 void alarm_in(int ms, int flags);
 extern volatile sig_atomic_t alarms;
 

@@ -363,7 +363,7 @@ def asyncio_signal():
 
 
 def main():
-    """Makes all waits at the same time, each in a separate process."""
+    """Performs all waits at the same time, each in a separate process."""
     children = []
     for name, milliseconds, call in CASES:
         reader, writer = os.pipe()
