@@ -39,7 +39,7 @@ LOTS = 12
 
 
 def answers(text):
-    """Returns the cases in a text, each with its answer."""
+    """Parses a string of cases and their answers."""
     return dict(re.findall(r"^(\w+:\w+):(.*)$", text, re.M))
 
 
@@ -70,7 +70,7 @@ def probe(folder, *more, flags=()):
 
 
 def answered(program, cases, options=(*FAST, "can0,can1", "vcan0"), settings=(), run_options=(), **how):
-    """Returns the answers of canbusd-run to these cases, from a server of their own."""
+    """Runs these cases on a new server, and returns the answers of canbusd-run."""
     with serving(*options) as server:
         how = {"env": environment(server, **dict(settings)), "options": run_options, **how}
         written = passes(server, program, *cases, patience=300, **how)
@@ -105,7 +105,7 @@ def boots(*words):
 
 @needs_gcc
 def test_answers(tmp_path):
-    """canbusd-run answers each case as the kernel does, or as differences.txt says"""
+    """canbusd-run answers every case as the kernel does, or as differences.txt says"""
     program = probe(str(tmp_path))
     cases = subprocess.run([program, "--list"], stdout=subprocess.PIPE, text=True, check=True).stdout.split()
     wrong = unlike(program, cases, KERNEL)
@@ -113,7 +113,7 @@ def test_answers(tmp_path):
 
 
 def check_differences(folder):
-    """Fails unless each difference is documented in LIMITS, and still occurs."""
+    """Fails unless every difference is documented in LIMITS, and still occurs."""
     limits = plain(file_of("../../../canbusd-run.1").split(".SH LIMITS")[1].split(".SH ENVIRONMENT")[0])
     lines, cases = differences(folder)
     kernel = answers(file_of("answers.txt", folder))
@@ -122,7 +122,7 @@ def check_differences(folder):
 
 
 def test_differences():
-    """each difference is documented in LIMITS, and still occurs"""
+    """every difference is documented in LIMITS, and still occurs"""
     check_differences(KERNEL)
 
 

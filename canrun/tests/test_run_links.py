@@ -43,7 +43,7 @@ IP = "/usr/sbin/ip"
 
 
 def keepers(server):
-    """Returns the process numbers of a server's keepers (canbusd-links)."""
+    """Returns the process IDs of a server's keepers (canbusd-links)."""
     return processes_of(environment(server)["CANBUSD_ADDRESS"], "canbusd-links")
 
 
@@ -83,7 +83,7 @@ def cases_of(program):
 @needs_ip
 @needs_libsocketcan
 def test_answers(tmp_path):
-    """canbusd-run answers each case as the kernel does, or as differences.txt says"""
+    """canbusd-run answers every case as the kernel does, or as differences.txt says"""
     program = probe(str(tmp_path), LINKS, flags=["-lsocketcan"])
     wrong = unlike(program, cases_of(program), LINKS, options=CARDS)
     assert not wrong, "\n".join(wrong)
@@ -94,7 +94,7 @@ def test_answers(tmp_path):
 @needs_ip
 @needs_libsocketcan
 def test_answers_sanitized(tmp_path):
-    """the answers are the same with sanitizers, and the sanitizers report nothing"""
+    """with sanitizers the answers are the same, and the sanitizers report nothing"""
     folder = str(tmp_path)
     program = probe(folder, LINKS, flags=[*SANITIZERS, "-lsocketcan"])
     reports = f"log_path={folder}/report:verify_asan_link_order=0:detect_stack_use_after_return=0"
@@ -106,7 +106,7 @@ def test_answers_sanitized(tmp_path):
 
 
 def test_differences():
-    """each difference is documented in LIMITS, and still occurs"""
+    """every difference is documented in LIMITS, and still occurs"""
     check_differences(LINKS)
 
 
@@ -125,7 +125,7 @@ def test_recorded():
 @needs_gcc
 @needs_ip
 def test_bus_off(tmp_path):
-    """state, carrier, error counters and restart counts are those of the server, before and after a restart"""
+    """state, carrier, error counters and restart counts are the same as the server's, before and after a restart"""
     writer = compiled("send_one", str(tmp_path))
     with bus(*FAST, ATTACK) as server:
         assert state_of(server) == ("ERROR-ACTIVE", "0", "0")
@@ -144,8 +144,8 @@ def test_bus_off(tmp_path):
 
 
 def relay(source, target):
-    """Passes all messages on, but holds state reports back until the next reply to a keeper, or until nothing else
-    comes."""
+    """Forwards all messages, but holds state reports back until the next reply to a keeper, or until nothing else
+    arrives."""
     text = items = b""
     source.settimeout(0.1)
     with contextlib.suppress(OSError):
@@ -195,7 +195,7 @@ def overtaken(server):
 @needs_gcc
 @needs_ip
 def test_bus_off_that_replies_overtake(tmp_path):
-    """the restart counts belong to the state that is shown, even if replies overtake reports"""
+    """the restart counts match the state that is shown, even if replies overtake reports"""
     writer = compiled("send_one", str(tmp_path))
     with bus(*FAST, ATTACK) as server, overtaken(server) as late:
         assert state_of(late) == ("ERROR-ACTIVE", "0", "0")
@@ -245,7 +245,7 @@ def test_bit_rates_of_each_bus():
 @needs_gcc
 @needs_ip
 def test_monitor(tmp_path):
-    """`ip monitor link` reports when the carrier is lost and when it comes back"""
+    """`ip monitor link` reports that the carrier is lost, and that it is back"""
     writer = compiled("send_one", str(tmp_path))
     with bus(*FAST, ATTACK) as server, started(server, IP, "monitor", "link") as monitor:
         assert come_true(lambda: keepers(server))
@@ -274,7 +274,7 @@ def test_down_and_up(tmp_path):
     # The bus has a bit rate, because otherwise repeats of an unacknowledged frame would fill the record in seconds.
     with bus("--ack", "peers", "can0,can1") as server, contextlib.closing(plain(server, "can1")) as other:
         passes(server, IP, "link", "set", "can1", "down")
-        # No node acknowledges the frame of can0, so it stays in the queue.
+        # No node acknowledges the frame from can0, so it stays in the queue.
         passes(server, writer, "can0")
         comes_to(server, "ERROR-PASSIVE")
         shown = passes(server, IP, "-details", "link", "show", "can1")
@@ -310,7 +310,7 @@ def test_down_by_others():
 
 @needs_ip
 def test_dump_of_many():
-    """listing 256 interfaces is fast, starts no process and uses no session"""
+    """listing 256 interfaces is fast, starts no process, and needs no session"""
     names = [[f"b{number}x{one}" for one in range(16)] for number in range(16)]
     with bus(*FAST, *(",".join(names_of_bus) for names_of_bus in names)) as server:
         shown = passes(server, IP, "-details", "-o", "link", "show")
@@ -324,7 +324,7 @@ def test_dump_of_many():
 
 @needs_ip
 def test_sessions():
-    """all requests share one session of the server, even a hundred of them"""
+    """all requests share one session of the server, even if there are a hundred"""
     with bus(*FAST, "can0,can1") as server:
         script = "for i in $(seq 100); do ip link show can0; done | grep -c link/can"
         assert passes(server, "sh", "-c", script, env=environment(server, PATH="/usr/sbin:/usr/bin:/bin")) == "100\n"
@@ -333,7 +333,7 @@ def test_sessions():
 
 @needs_ip
 def test_full():
-    """an interface is found even if the server has no free session; its state is then missing, and standard error says
+    """an interface is found even if the server has no free session; its state is then unknown, and standard error says
     why"""
     with bus(*FAST, "can0,can1") as server:
         clients = [plain(server, "can0") for _ in range(63)]
@@ -429,7 +429,7 @@ def test_qt():
 @needs_gcc
 @needs_ip
 def test_virtual(tmp_path):
-    """in virtual time restart-ms takes exactly its time, so a minute passes at once"""
+    """in virtual time restart-ms takes exactly the requested time, and a minute passes at once"""
     writer = compiled("send_one", str(tmp_path))
     script = f"""
 export PATH=/usr/sbin:$PATH CANBUSD_ADDRESS={tmp_path}/bus

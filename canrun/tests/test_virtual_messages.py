@@ -1,4 +1,4 @@
-"""Virtual time: the messages about things that can't work, and no messages about things that can."""
+"""Virtual time: messages about programs that can't work, and no messages about programs that can."""
 
 import os
 import re
@@ -71,8 +71,8 @@ def test_short_ones(tmp_path):
 @needs_gcc
 @pytest.mark.parametrize("does", ["for (volatile long i = 0; i < 3000000000; i++) {}", "getchar();"])
 def test_long_ones(tmp_path, does):
-    """a program without the library that runs for long is reported, because it sees the real time; also if it only
-    waits for input from outside the run"""
+    """a program without the library that runs for a long time is reported, because it sees the real time, even if it
+    only waits for input from outside the run"""
     source = str(tmp_path / "long.c")
     with open(source, "w", encoding="utf-8") as file:
         file.write(f"#include <stdio.h>\nint main(void) {{ {does} return 0; }}\n")
@@ -94,7 +94,7 @@ def test_valgrind():
 
 @needs("parallel")
 def test_parallel(tmp_path):
-    """GNU parallel works, although it first tests the maximum length of commands with a changed environment"""
+    """GNU parallel works, although it first determines the maximum length of commands with a changed environment"""
     env = {**os.environ, "HOME": str(tmp_path), "PARALLEL_HOME": str(tmp_path)}
     begun = time.monotonic()
     ended = virtual("parallel", "-j1", "sleep 20; echo", ":::", "a", "b", env=env)

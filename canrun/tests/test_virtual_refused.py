@@ -1,5 +1,5 @@
-"""A program that can't be in virtual time ends the run at once, with status 125 and a line that names program, thread
-and reason."""
+"""A program that can't be in virtual time ends the run at once, with status 125 and a line that names the program, the
+thread and the reason."""
 
 import os
 import shutil

@@ -43,7 +43,7 @@ def all_same(name, kind, folder, nodes, runs, options=()):
 @pytest.mark.parametrize("name, kind", SAME)
 @pytest.mark.parametrize("runs", [RUNS, pytest.param(100, marks=pytest.mark.slow)])
 def test_same_bytes(tmp_path, nodes, name, kind, runs):
-    """logs, records and all outputs are identical in each run"""
+    """logs, records and all outputs are identical in every run"""
     all_same(name, kind, tmp_path, nodes, runs)
 
 
@@ -51,7 +51,7 @@ def test_same_bytes(tmp_path, nodes, name, kind, runs):
 @needs_tools
 @pytest.mark.parametrize("name, kind", SAME)
 def test_same_bytes_of_a_seed(tmp_path, nodes, name, kind):
-    """they are also identical in runs with a seed and jitter"""
+    """logs, records and all outputs are identical in two runs with the same seed and jitter"""
     all_same(name, kind, tmp_path, nodes, 2, SEED)
 
 
@@ -61,7 +61,7 @@ def test_same_bytes_of_a_seed(tmp_path, nodes, name, kind):
 @pytest.mark.parametrize("options", [(), SEED])
 @pytest.mark.parametrize("name, kind", SAME)
 def test_same_bytes_beside_others(tmp_path, nodes, name, kind, options):
-    """they are also identical while four other processes use the processors"""
+    """logs, records and all outputs are identical while four other processes use the processors"""
     burners = [subprocess.Popen(["nice", "-n", "19", "sh", "-c", "while :; do :; done"]) for _ in range(4)]
     try:
         all_same(name, kind, tmp_path, nodes, 100, options)
@@ -74,14 +74,14 @@ def test_same_bytes_beside_others(tmp_path, nodes, name, kind, options):
 @needs_gcc
 @needs_tools
 def test_seeds(tmp_path, nodes):
-    """another seed gives a different run, which is identical each time"""
+    """runs with the same seed are identical, and runs with different seeds differ"""
     left = [case("nodes", tmp_path / name, nodes, words, FRAMES="20") for name, words in zip("abc", (SEED, SEED, ()))]
     assert left[0] == left[1] != left[2]
 
 
 @needs_gcc
 def test_race(nodes):
-    """some seeds show a race that the usual order never shows, and they show it again in each run"""
+    """some seeds show a race that the usual order never shows, and they show it again in every run"""
     assert virtual(nodes / "race").stdout == "all are unique\n"
     found = [virtual(nodes / "race", options=("--seed", str(seed), "--jitter", "500")).stdout for seed in range(12)]
     assert 1 <= sum("given out twice" in text for text in found) <= 11, found
@@ -103,7 +103,7 @@ def test_what_is_random(nodes, options):
 
 
 def test_what_is_random_of_a_shell():
-    """the bytes are the run's even if a random device is the standard input of a program"""
+    """random bytes are the same in every run, even if a random device is the standard input of a program"""
     text = "head -c 8 /dev/urandom; head -c 8 </dev/urandom"
     line = [command(), "--virtual", "sh", "-c", text]
     first, second = (subprocess.run(line, stdout=subprocess.PIPE, check=True).stdout for _ in range(2))
@@ -148,7 +148,7 @@ def test_writes_to_tcp():
 
 
 def test_seed_of_a_failed_script():
-    """if a script fails, the run prints the seed that repeats the failure"""
+    """if a script fails, the run prints the seed with which the failure can be repeated"""
     for words, options in ((("--seed", "7"), "--seed 7 --jitter 0"), (("--jitter", "50"), "--seed 0 --jitter 50")):
         ended = virtual("sh", "-c", "sleep 1; exit 3", options=words)
         line = f"canbusd-run: virtual time: at 1.000000 s status 3; {options} repeats it\n"
@@ -269,14 +269,14 @@ with canbusd.Server("ecu,tester", bitrate=500000) as server:
 
 @needs_can
 def test_waits_of_the_package():
-    """calls of the package time out after exactly their timeout, whenever they begin"""
+    """every call of the package times out after exactly its timeout, whenever it begins"""
     env = {**os.environ, "CANBUSD": program(), "PYTHONPATH": os.path.join(ROOT, "python", "src")}
     ended = virtual(sys.executable, "-c", WAITS, env=env)
     assert (ended.returncode, set(ended.stdout.split("\n"))) == (0, {""}), ended
 
 
 def test_start_of_python(tmp_path):
-    """a test begins at the start of the run, however much Python has to read and compile before"""
+    """a test begins at the start of the run, however much Python has to read and compile first"""
     (tmp_path / "test_it.py").write_text("import time\ndef test_it():\n    print(time.monotonic())\n", encoding="utf-8")
     words = [sys.executable, "-m", "pytest", "-q", "-s", "-p", "no:cacheprovider", "test_it.py"]
     for env in ({}, {"PYTHONPYCACHEPREFIX": str(tmp_path / "new")}, {"PYTHONDONTWRITEBYTECODE": "1"}):

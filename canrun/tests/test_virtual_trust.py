@@ -1,4 +1,4 @@
-"""Virtual time: a run is closed to programs that it has not started, and gives no program additional rights."""
+"""Virtual time: programs outside a run have no access to it, and the run gives no program additional rights."""
 
 import signal
 import subprocess
