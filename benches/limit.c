@@ -297,7 +297,7 @@ static inline char *put_frame(char *o, const frame *f) {
     return put_bytes(o, f->data, len);
 }
 
-/* An error item has the form code << 28 | interface << 24 | three bytes. */
+/* An error item has the format code << 28 | interface << 24 | three bytes. */
 enum { E_OFF = 1, E_RESTART, E_STATE, E_FAULT, E_ACK };
 static const char error_class[6][4] = {"", "040", "100", "204", "088", "0A0"};
 
@@ -870,8 +870,8 @@ static void post_faults(u32 i, u32 ref, u32 w, u32 cls, u32 verdict, u32 hit) {
         post_error(i, ref, E_ACK, 0x8019);
 }
 
-/* Runs an attempt. Each socket gets its items in this order: the data frame, then the error message frames of its
- * interface. Those about the fault come before those about the state. */
+/* Runs an attempt. Every socket gets its items in this order: the data frame, then the error message frames of its
+ * interface. Error message frames about the fault come before those about the state. */
 static entry *do_attempt(u32 moment, u32 verdict, u32 set) {
     u32 due = 0, ref = entries;
     entry *e = new_entry(ATTEMPT | verdict << 3, IDLE, set, 0, moment, 0);

@@ -83,7 +83,7 @@ class Build:
 
 @pytest.mark.parametrize("name", PLAIN)
 def test_program(build, name):
-    """the program's checks pass, no bridge is left, and the record is legal"""
+    """every program passes its checks, no bridge is left, and the record is legal"""
     with serving(*FAST, "can0,can1") as server:
         build.passes(server, name)
         server.end()
@@ -173,7 +173,7 @@ def test_stopped(number, lots, tmp_path):
     SA_RESTART"""
     path = compiled("stopped", str(tmp_path))
     for _ in range(lots):
-        # The bus sends only one frame a minute, and all tries of a program end before that.
+        # The bus sends only one frame a minute. All tries of a program end within that minute.
         with serving("--pace", "60000", "--txqueue", "1", "can0,can1") as server:
             passes(server, path, str(int(number)), "50", options=["--wait"])
             server.end()
@@ -196,7 +196,7 @@ def test_busoff(build):
 
 
 def test_gone(build, tmp_path):
-    """calls on sockets return ENODEV and ENXIO if the server ends while the program runs"""
+    """socket calls fail with ENODEV and ENXIO if the server ends while the program runs"""
     path = compiled("gone", str(tmp_path))
     with serving(*FAST, "can0,can1") as server, started(server, path) as child:
         assert child.stdout.readline() == "ready\n", child.stderr.read()

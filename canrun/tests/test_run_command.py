@@ -67,7 +67,7 @@ def test_help():
     ],
 )
 def test_wrong_words(words, line):
-    """wrong arguments end canbusd-run with status 125 and one line"""
+    """after wrong arguments canbusd-run prints one line and ends with status 125"""
     ended = alone(*words)
     assert (ended.returncode, ended.stdout, ended.stderr) == (125, "", f"canbusd-run: {line}\n")
 
@@ -110,7 +110,7 @@ def test_other_server():
 
 @pytest.mark.parametrize("answer", [b"< error unknown command >", b"< interfaces can0", b"< interfaces >", b""])
 def test_older_server(answer):
-    """a server that can't list its interfaces is reported as an older version"""
+    """a server that can't list its interfaces is reported as an older version of canbusd"""
     with socket.create_server(("127.0.0.1", 0)) as older:
         address = f"127.0.0.1:{older.getsockname()[1]}"
         with subprocess.Popen([command(), "--address", address, "true"], stderr=subprocess.PIPE, text=True) as child:
@@ -141,7 +141,7 @@ def test_full_server():
         server.end()
 
 
-#: Sends a frame for each argument. Prints for each received frame whether this socket sent it, and whether this host
+#: Sends a frame for each argument. For each received frame, prints whether this socket sent it, and whether this host
 #: sent it.
 OWN_FRAMES = """
 import socket, struct, sys
@@ -172,7 +172,7 @@ def test_numbers_of_a_long_run():
         server.close()
 
 
-#: Sends two frames, the second by a timer, and prints whether each of the four messages reports a received frame.
+#: Sends two frames, the second with a timer. Prints whether each of the four messages reports a received frame.
 TIMED_FRAMES = """
 import socket, struct
 with socket.socket(socket.PF_CAN, socket.SOCK_DGRAM, socket.CAN_BCM) as can:
@@ -189,8 +189,8 @@ with socket.socket(socket.PF_CAN, socket.SOCK_DGRAM, socket.CAN_BCM) as can:
 
 
 def test_frames_that_come_with_a_verdict():
-    """the program gets the messages that arrive together with the result of a timer's frame, even if nothing arrives
-    after them"""
+    """the program gets the messages that arrive together with the result of a frame from a timer, even if nothing
+    arrives after them"""
     with socket.create_server(("127.0.0.1", 0)) as server:
         address = f"127.0.0.1:{server.getsockname()[1]}"
         numbers = [(1, 2), (3, 4)]
@@ -201,7 +201,8 @@ def test_frames_that_come_with_a_verdict():
 
 
 def answer_sessions(server, numbers):
-    """Greets each session. Answers a send with the frame's number, this frame, and another frame of the interface."""
+    """Sends the greeting to every session. Answers a send with the frame's number, this frame, and another frame on the
+    same interface."""
     with contextlib.suppress(OSError):
         while True:
             connection, _ = server.accept()
@@ -379,7 +380,7 @@ def test_kill():
 
 
 def test_pipes():
-    """a bridge holds no pipe open, so a reader sees the end of its input when the program has ended"""
+    """a bridge keeps no pipe open, so a reader sees the end of its input after the program has ended"""
     with serving("can0,can1") as server:
         script = 'python3 -c "$1" & read -r _; kill -STOP $!; echo done'
         with started(server, "bash", "-c", f"({script})", "sh", WAITING_READER, stdin=subprocess.PIPE) as child:
@@ -439,7 +440,7 @@ def test_nested():
         server.end()
 
 
-#: Makes two binds, both of which the server refuses.
+#: Makes two bind calls, which the server refuses.
 TWICE = """
 import errno, socket
 with socket.socket(29, 3, 1) as s:
@@ -483,7 +484,7 @@ def test_debug():
         server.end()
 
 
-#: Starts another program by posix_spawn, and then replaces itself with a program from PATH.
+#: Starts another program with posix_spawn, and then replaces itself with a program from PATH.
 STARTS = [
     "/usr/bin/python3",
     "-c",
@@ -537,7 +538,8 @@ def test_obstacles(tmp_path):
 
 
 def test_space_in_path(tmp_path):
-    """the loader can't preload a library from a path with a space, so canbusd-run ends with status 125 and one line"""
+    """the loader can't preload a library whose path contains a space, so canbusd-run prints one line and ends with
+    status 125"""
     folder = tmp_path / "my programs"
     folder.mkdir()
     for name in ("canbusd-run", "canbusd-bridge", "libcanbusd-run.so", "libcanbusd-virtual.so"):
@@ -550,7 +552,7 @@ def test_space_in_path(tmp_path):
 
 @pytest.mark.root
 def test_unprivileged(tmp_path):
-    """the user nobody, who can get no additional rights, can use canbusd-run"""
+    """the user nobody, who can't get additional rights, can use canbusd-run"""
     reader = os.path.dirname(command())
     shutil.copytree(reader, tmp_path / "run", ignore=shutil.ignore_patterns("sanitized"))
     for path in [tmp_path, *tmp_path.parents]:
@@ -572,8 +574,8 @@ def test_unprivileged(tmp_path):
 
 
 def test_64_sockets():
-    """a program can have as many sockets as the server has sessions. One more fails with EUSERS (87), which a line
-    explains. It succeeds after another socket is closed"""
+    """a program can have as many sockets as the server has sessions. One more socket fails with EUSERS (87), and a line
+    gives the reason. It succeeds after another socket has been closed"""
     text = """
 import errno, socket
 def one():
@@ -736,14 +738,14 @@ def stop(server):
 
 
 def call_of(pid):
-    """Returns the number of the system call in which a process waits, or `running`."""
+    """Returns the number of the system call in which a process waits, or `running` if it does not wait."""
     with open(f"/proc/{pid}/syscall", encoding="utf-8") as file:
         return file.read().split()[0]
 
 
-#: After this many writes to a socket, the process's further writes to it are quick writes.
+#: A process's writes to a socket are quick writes after this many writes to the socket.
 QUICK = 8
-#: Writes as many frames as its argument says, and then waits for an input line.
+#: Writes as many frames as its argument says, and then waits for a line of input.
 WRITER = """
 import errno, socket, struct, sys, threading, time
 s = socket.socket(29, 3, 1)

@@ -1,4 +1,4 @@
-"""The examples that use canbusd-run: a program that is driven to bus off, a car, and a virtual ECU."""
+"""The examples that use canbusd-run: a program that goes bus off, a car, and a virtual ECU."""
 
 import os
 import shutil

@@ -117,7 +117,7 @@ def test_j1939acd(server, tmp_path):  # noqa: F811
     not importlib.util.find_spec("test.test_socket"), reason="no tests of CPython, as of libpython3.11-testsuite"
 )
 def test_cpython(server):  # noqa: F811
-    """CPython's three tests of J1939 pass"""
+    """the three J1939 tests of CPython pass"""
     ended = run(server, PYTHON, "-m", "unittest", "-v", "test.test_socket.J1939Test")
     assert ended.returncode == 0 and "Ran 3 tests" in ended.stderr and "skipped" not in ended.stderr, ended
 

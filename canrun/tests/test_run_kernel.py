@@ -1,6 +1,6 @@
-"""Compares canbusd-run with a real kernel. The programs of run_c/ pass on the kernel too. Each case of kernel/ has the
-kernel's answer, which is in answers.txt. The exceptions are in differences.txt, each with its line of LIMITS in
-canbusd-run.1."""
+"""Compares canbusd-run with a real kernel. The programs in run_c/ also pass on the kernel. The kernel's answers to the
+cases in kernel/ are stored in answers.txt. Cases with a different answer are listed in differences.txt, each with the
+line in LIMITS (canbusd-run.1) that documents it."""
 
 import concurrent.futures
 import os
@@ -34,7 +34,7 @@ SAME = (
     "passed_by",
     "wrote_past",
 )
-#: The cases are divided among this many servers, because most of their time is waiting.
+#: How many servers share the cases. They run in parallel, because a case spends most of its time waiting.
 LOTS = 12
 
 
@@ -55,12 +55,12 @@ def differences(folder=KERNEL):
 
 
 def plain(page):
-    """Returns the words of a manual page without markup."""
+    """Returns the words of a manual page, without markup."""
     return " ".join(re.sub(r"\\f.|\\(?=-)|^\.\S+", "", page, flags=re.M).split())
 
 
 def probe(folder, *more, flags=()):
-    """Compiles the program of the cases, optionally with the cases of further folders."""
+    """Compiles the program with the cases in a folder, and optionally the cases in other folders."""
     path = os.path.join(folder, "probe")
     sources = [
         os.path.join(of, name) for of in (KERNEL, *more) for name in sorted(os.listdir(of)) if name.endswith(".c")
@@ -128,7 +128,7 @@ def test_differences():
 
 @pytest.mark.slow
 def test_recorded():
-    """answers.txt has the answers that the kernel gives now"""
+    """answers.txt contains the answers that the kernel gives now"""
     booted = boots(os.path.join(KERNEL, "answers"))
     assert answers(booted) == answers(file_of("answers.txt"))
 

@@ -1,5 +1,6 @@
-"""canbusd-run: interfaces by netlink. Each case of links/ has the answer of a kernel with a CAN card. Common programs
-find interfaces, change them, and recover them from bus off. Further tests check what these requests cost a server."""
+"""canbusd-run: netlink access to interfaces. Each case in links/ has the answer of a kernel with a CAN card. Common
+programs find interfaces, change them, and recover them from bus off. Further tests check the cost of these requests for
+a server."""
 
 import contextlib
 import os
@@ -30,9 +31,9 @@ from serving import ROOT, come_true, join, plain, serving
 from test_run_kernel import KERNEL, boots, check_differences, probe, unlike
 
 LINKS = os.path.join(ROOT, "canrun", "tests", "links")
-#: The buses of the server for the cases; can2 and can3 stand for the interfaces of the CAN cards.
+#: The buses of the server for the cases. can2 and can3 take the role of the interfaces of the CAN cards.
 CARDS = ("--bitrate", "500000", "can0,can1", "vcan0", "can2,can3")
-#: A fault script destroys a frame of can0 again and again until its sender is bus off.
+#: A bus with a fault script that destroys a frame from can0 again and again until its sender is bus off.
 ATTACK = f"can0,can1@{ROOT}/examples/bus_off_attack.script"
 
 needs_ip = pytest.mark.skipif(not os.path.exists("/usr/sbin/ip"), reason="no ip: apt-get install iproute2")
@@ -55,7 +56,7 @@ def ended(server):
 
 @contextlib.contextmanager
 def bus(*words):
-    """Runs a server, and checks at its end that its keepers end too."""
+    """Runs a server. Checks that its keepers end when it ends."""
     with serving(*words) as server:
         yield server
         ended(server)
@@ -112,7 +113,7 @@ def test_differences():
 
 @pytest.mark.slow
 def test_recorded():
-    """answers.txt has the answers that the kernel gives now"""
+    """answers.txt contains the answers that the kernel gives now"""
     booted = boots(os.path.join(KERNEL, "answers"), "links")
     with open(os.path.join(LINKS, "answers.txt"), encoding="utf-8") as file:
         recorded = file.read()
@@ -173,7 +174,7 @@ def relay(source, target):
 
 @contextlib.contextmanager
 def overtaken(server):
-    """Yields an address of the same server at which replies overtake reports that were queued before them."""
+    """Yields another address of the server, at which replies overtake reports that were queued before them."""
 
     def accept():
         with contextlib.suppress(OSError):
@@ -271,7 +272,8 @@ def test_monitor(tmp_path):
 def test_down_and_up(tmp_path):
     """an interface that is down sends nothing, acknowledges nothing, and loses its queued frames"""
     writer = compiled("send_one", str(tmp_path))
-    # The bus has a bit rate, because otherwise repeats of an unacknowledged frame would fill the record in seconds.
+    # The bus has a bit rate. Without a bit rate the repeats of an unacknowledged frame would fill the record in
+    # seconds.
     with bus("--ack", "peers", "can0,can1") as server, contextlib.closing(plain(server, "can1")) as other:
         passes(server, IP, "link", "set", "can1", "down")
         # No node acknowledges the frame from can0, so it stays in the queue.
@@ -296,7 +298,7 @@ def test_down_and_up(tmp_path):
 
 @needs_ip
 def test_down_by_others():
-    """an interface that another client of the server takes down is shown as down, and netlink can set it up"""
+    """an interface that another client of the server sets down is shown as down, and netlink can set it up"""
     with bus(*FAST, "can0,can1") as server, contextlib.closing(plain(server, "can0")) as client:
         assert state_of(server)[0] == "ERROR-ACTIVE"
         assert client.answer("< down >") == "< ok >"

@@ -187,7 +187,7 @@ def test_periodic(server):
 
 
 def test_errors():
-    """a program gets error message frames and bus off, and a send then raises an exception"""
+    """a program receives error message frames and notices bus off; a send then raises an exception"""
     with serving("--pace", "0", f"can0,can1@{ROOT}/examples/bus_off_attack.script") as server:
         python(
             server,

@@ -1,6 +1,6 @@
 """canbusd-run --static: programs that load no library. A statically linked program gets the kernel's answers to the
-cases of kernel/ and links/. The exceptions are the known differences from the kernel, and static.txt. Further tests run
-programs of Go and musl, signals and forks."""
+cases in kernel/ and links/. The exceptions are the known differences from the kernel, and the cases in static.txt.
+Other tests run Go and musl programs, and test signals and forks."""
 
 import concurrent.futures
 import os
@@ -63,7 +63,7 @@ def test_answers(tmp_path, folder):
 
 
 def test_differences():
-    """each difference is documented in LIMITS, and still occurs"""
+    """every difference is documented in LIMITS, and still occurs"""
     limits = words_of(file_of("../../../canbusd-run.1").split(".SH LIMITS")[1].split(".SH ENVIRONMENT")[0])
     lines, cases = known_differences()
     kernel = {**answers(file_of("answers.txt")), **answers(file_of("answers.txt", LINKS))}

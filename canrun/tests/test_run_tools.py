@@ -1,4 +1,4 @@
-"""canbusd-run: the tools of can-utils, tested by their output in can-utils' own formats."""
+"""canbusd-run: the tools of can-utils. Their output is compared with can-utils' own formats."""
 
 import contextlib
 import re
@@ -57,7 +57,7 @@ def test_cansend():
 
 
 def test_cansend_refused():
-    """a wrong interface name, a full queue and bus off give the same error messages as the kernel"""
+    """the error messages for a wrong interface name, a full queue and bus off are those of the kernel"""
     with serving("--pace", "60000", "can0,can1@" + f"{ROOT}/examples/bus_off_attack.script") as server:
         wrong = run(server, "cansend", "can7", "123#")
         assert wrong.returncode == 1 and "No such device" in wrong.stderr, wrong
@@ -132,7 +132,7 @@ def test_candump_stamps():
     ],
 )
 def test_candump_filters(server, words, expected):
-    """only matching frames pass, up to a last frame that always passes; there may be 200 filters"""
+    """candump shows only matching frames, and a last frame that always matches; there may be 200 filters"""
     last = "" if "~" in words else ",1AA:7FF"
     with listening(server, "candump", "-L", words + last) as dump:
         send(server, "123#", "124#", "00000123#", "7FF#", "1AA#")
@@ -145,7 +145,7 @@ def test_candump_filters(server, words, expected):
 
 
 def test_candump_any(server):
-    """frames of two buses arrive, including the loopback at the interface that sends"""
+    """candump on all interfaces shows the frames of two buses, including the loopback on the sending interface"""
     with listening(server, "candump", "-L", "any") as dump:
         send(server, "123#01")
         send(server, "124#02", name="vcan0")
@@ -189,7 +189,7 @@ def test_cangen(server, tmp_path):
 
 
 def test_cangen_kinds(server):
-    """cangen generates FD frames, 29-bit identifiers and remote frames, and with -i continues if the queue is full"""
+    """cangen generates FD frames, 29-bit identifiers and remote frames; with -i it continues when the queue is full"""
     with listening(server, "candump", "-L", "-n", "30", "can1") as dump:
         passes(server, "cangen", "can0", "-g", "1", "-n", "10", "-f")
         passes(server, "cangen", "can0", "-g", "1", "-n", "10", "-e")
@@ -290,8 +290,7 @@ def test_canlogserver(server):
 
 
 def test_isotpdump(server):
-    """isotpdump shows the protocol's frames; it also works with a preloaded library that makes it write each line at
-    once"""
+    """isotpdump shows the protocol's frames, also with a preloaded library that makes it write every line at once"""
     with listening(server, "stdbuf", "-oL", "isotpdump", "-s", "123", "-d", "321", "-c", "can1") as dump:
         send(server, "123#021122", "123#100A112233445566")
         lines = [dump.stdout.readline() for _ in range(2)]
@@ -322,8 +321,8 @@ def test_isotp(server, sending, receiving, length):
 
 @needs("isotpsend", "isotprecv")
 def test_isotp_bus_off(tmp_path):
-    """a message whose frames are lost fails with ECOMM 2 seconds after the last frame, although the server accepted all
-    frames"""
+    """an ISO-TP message whose frames are lost fails with ECOMM 2 seconds after the last frame, although the server
+    accepted all frames"""
     script = tmp_path / "off.script"
     script.write_text("next 32 from ecu skip 3 global bit\n", encoding="utf-8")
     with serving("--pace", "1", f"ecu,tester@{script}") as server:
@@ -378,7 +377,7 @@ def test_canplayer_log_with_faults(tmp_path):
         assert logged(server, "can0") == ["can0 123#01", "can0 124#02"]
 
 
-#: How often a test runs that would fail if a program hung. The slow variant runs as often as --cases says.
+#: How often to run a test that would fail if a program hung. The slow variant runs as often as --cases says.
 few_and_many = pytest.mark.parametrize("runs", [10, pytest.param(0, marks=pytest.mark.slow)], ids=["few", "many"])
 
 

@@ -210,7 +210,7 @@ def test_all_wait(tmp_path):
 
 
 def test_stopped():
-    """a stopped program does not delay other programs, and continues where it was after SIGCONT"""
+    """a stopped program does not delay other programs; after SIGCONT it continues"""
     for text, seconds in (("sleep 5 & sleep 1", 11), ("sleep 5 &", 15)):
         script = f"{text}; kill -STOP $!".replace("&;", "&") + "; sleep 10; kill -CONT $!; wait; date +%s"
         ended = virtual("sh", "-c", script)
@@ -271,7 +271,7 @@ def test_calls_of_go(tmp_path):
 @needs_gcc
 @pytest.mark.parametrize("is_static", [False, True])
 def test_io_uring_by_instruction(tmp_path, nodes, is_static):
-    """a wait for a ring that was set up by direct system calls ends the run"""
+    """the run ends if a program waits for an io_uring that was set up with direct system calls"""
     ended = virtual(static_unseen(tmp_path) if is_static else nodes / "unseen", "io_uring_enter")
     if ended.returncode == 77:
         pytest.skip("no io_uring")
@@ -291,7 +291,7 @@ def test_server_outside():
     assert virtual(sys.executable, "-c", inside).returncode == 0
 
 
-#: Connects to programs outside the run: by python-can without an address, in a child process, and to a Unix path.
+#: Connects to programs outside the run: with python-can without an address, in a child process, and at a Unix path.
 OUTSIDE = r"""
 import os, socket, subprocess, sys
 import can
@@ -444,7 +444,7 @@ def test_slow_end(nodes):
     ],
 )
 def test_wrong_options(words, fault):
-    """wrong options end canbusd-run with status 125 and one line"""
+    """after wrong options canbusd-run prints one line and ends with status 125"""
     ended = subprocess.run([command(), *words], capture_output=True, text=True, check=False)
     assert ended.returncode == 125 and fault in ended.stderr and ended.stderr.count("\n") == 1
 

@@ -24,7 +24,7 @@ def test_no_server():
     assert "canbusd-run --virtual sh -c 'canbusd serve --bitrate 500000 can0 & sleep 1; canbusd-run candump ..'" in said
 
 
-#: A program with an ELF note of Go in second place, after another note.
+#: A program with two ELF notes, of which the second is a note of Go.
 NOTED = """
 #include <stdio.h>
 #define NOTE(name, owner) \\
@@ -44,7 +44,7 @@ int main(void) {
 
 @needs_gcc
 def test_go_with_c(tmp_path):
-    """a Go program that loads libraries ends the run at once, and not only when no program can continue"""
+    """a Go program that loads libraries ends the run at once, even while other programs can continue"""
     (tmp_path / "noted.c").write_text(NOTED, encoding="utf-8")
     path = str(tmp_path / "noted")
     subprocess.run(["gcc", *FLAGS, "-Wno-unused-macros", "-o", path, path + ".c"], check=True)
@@ -104,6 +104,6 @@ def test_parallel(tmp_path):
 
 @pytest.mark.parametrize("word", ["--seed", "--jitter"])
 def test_help(word):
-    """the help says how large the jitter has to be"""
+    """the help says how large the jitter must be"""
     shown = subprocess.run([command(), "--help"], stdout=subprocess.PIPE, text=True, check=True).stdout
     assert word in shown and "to exceed the time between the events" in shown

@@ -14,7 +14,7 @@ from virtual_runs import case, needs_can, needs_tools, nodes, virtual
 
 __all__ = ["nodes"]
 
-#: How often the test suite runs each case.
+#: How often the test suite runs every case.
 RUNS = 5
 SEED = ("--seed", "5", "--jitter", "300")
 
@@ -141,7 +141,7 @@ with socket.create_connection(server.getsockname()) as client:
 
 
 def test_writes_to_tcp():
-    """no byte waits for the kernel's TCP timers, which use the real clock"""
+    """no byte is delayed by the kernel's TCP timers, which use the real clock"""
     ended = virtual(sys.executable, "-c", WRITES)
     assert ended.returncode == 0, ended
     assert ended.stdout.split() == [f"{1000 + number * 0.05:.3f}" for number in range(50)]
@@ -156,8 +156,8 @@ def test_seed_of_a_failed_script():
     assert virtual("sh", "-c", "exit 3").stderr == virtual("true", options=SEED).stderr == ""
 
 
-#: Tests that fail with some seeds: their results depend on waits, threads, a server that several tests use, and random
-#: numbers.
+#: Tests that fail with some seeds. Their results depend on waits, on threads, on a server that several tests use, and
+#: on random numbers.
 RACES = """
 import random
 import threading
@@ -210,7 +210,7 @@ def test_shared(shared, number):
 
 
 def reasons(text):
-    """Returns pytest's messages for each failed test: the lines that begin with E."""
+    """Returns pytest's messages about each failed test: the lines that begin with E."""
     parts = re.findall(r"^_+ (test_\S+) _+$(.*?)(?=^_+ test_|^=+ short)", text, re.M | re.S)
     return {name: re.findall("^E .*$", body, re.M) for name, body in parts}
 
@@ -218,8 +218,7 @@ def reasons(text):
 @needs_can
 @pytest.mark.parametrize("seeds", [2, pytest.param(50, marks=pytest.mark.slow)])
 def test_repeated_tests(tmp_path, seeds):
-    """the command that a failed test prints repeats the failure, although it runs that test without the other tests of
-    the file"""
+    """the command that a failed test prints repeats the failure, although it runs only that test of the file"""
     (tmp_path / "test_it.py").write_text(RACES, encoding="utf-8")
     env = {**os.environ, "CANBUSD_RUN": command(), "CANBUSD": program(), "PYTHONPATH": os.path.join(ROOT, "python/src")}
     env["PYTEST_ADDOPTS"] = "-p canbusd.pytest_plugin -p no:cacheprovider --tb=short"
@@ -236,12 +235,12 @@ def test_repeated_tests(tmp_path, seeds):
             again = subprocess.run(f"{sys.executable} {line}", shell=True, **how).stdout
             (name,) = reasons(again)
             assert reasons(again)[name] == failed[name], (seed, whole, again)
-    # Two threads that take five turns have 32 possible orders.
+    # In each of the five rounds either thread can be first, so 32 orders are possible.
     assert len(orders) > min(seeds, 16), orders
 
 
-#: Makes each call of the package that can time out, with several timeouts and start times. Prints those that do not
-#: take exactly the timeout.
+#: Makes every call of the package that can time out, with several timeouts and start times. Prints the calls that do
+#: not take exactly the timeout.
 WAITS = """
 import contextlib, time
 import canbusd

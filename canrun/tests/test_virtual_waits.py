@@ -20,7 +20,7 @@ TOPICS = (
     *("sleeps", "polls", "signals", "awaited", "signalfds", "cancels", "locks", "conditions", "threads", "timers"),
     *("timerfds", "files", "queues", "sockets", "processes", "by_number"),
 )
-#: By how many seconds a wait in real time may be longer, and how often all waits are tried on a busy machine.
+#: How many seconds longer a wait may take in real time, and how often all waits are tried on a busy machine.
 LATE, TRIES = 2.0, 4
 
 

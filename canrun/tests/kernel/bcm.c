@@ -149,7 +149,7 @@ CASE(cp_id_of_setup, a = bcm("can0"), b = raw("can1"),
           .count = 1, .ival1 = {0, 10000}, .nframes = 1),
      take(b, 1))
 
-/* Receives frames through a content filter with this mask. */
+/* A case that receives frames through a content filter with this mask. */
 #define RECEIVES(name, flags_, frames, ...)                                                                           \
     CASE(name, a = bcm("can0"), b = raw("can1"),                                                                      \
          tell(a,                                                                                                      \

@@ -1,4 +1,4 @@
-/* The frames that a CAN_RAW socket receives. */
+/* Which frames a CAN_RAW socket receives with its filters. */
 #include "probe.h"
 
 /* Appends a filter for the last frame of the set to a list of filters. */

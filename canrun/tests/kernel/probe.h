@@ -1,4 +1,4 @@
-/* Cases of SocketCAN for test_run_kernel.py. Each case prints one line, which is the same on the kernel and on canbusd.
+/* SocketCAN cases for test_run_kernel.py. Each case prints one line, which is the same for the kernel and for canbusd.
  */
 #ifndef PROBE_H
 #define PROBE_H
@@ -57,7 +57,7 @@ void result(long value);
 /* The value that the last call returned. */
 extern long returned;
 #define DO(...) (errno = 0, result((long)(__VA_ARGS__)))
-/* Prints 0 if a call returned a descriptor, whatever its number, or else the errno. */
+/* Prints 0 if a call returned a descriptor, whatever its number is. Otherwise prints the errno. */
 #define OPEN(...) (errno = 0, result((__VA_ARGS__) < 0 ? -1 : 0))
 #define SETS(...) DO(setsockopt(__VA_ARGS__))
 
@@ -116,7 +116,7 @@ char *halfway(size_t bytes);
 extern int quiet;
 /* Reads this many frames, however long each takes, and all further frames that arrive soon after. */
 void take(int fd, int expected);
-/* Reads frames until the frame with this identifier. */
+/* Reads frames up to the frame with this identifier. */
 void take_to(int fd, canid_t id);
 /* Reads the frame of the last write, and prints its bytes up to the last nonzero one. After a failed write no frame is
  * expected. */
@@ -127,7 +127,7 @@ void message(int fd);
 void message_to_77(int fd);
 void change(int fd);
 void changes_to_last(int fd, int writer);
-/* Functions that read without waiting, with the address, several messages at once, or with control messages. */
+/* Functions that read without waiting: with the address, several messages at once, or with control messages. */
 void glance(int fd);
 void from(int fd, int length);
 void several_from(int fd, unsigned number, int flags);
@@ -143,8 +143,8 @@ void watch(int fd, unsigned events);
 void watched(bool is_expected);
 /* Waits for this many milliseconds. Only for cases in which time must pass. */
 void pass(int milliseconds);
-/* `signals` and `signals_of` install a handler of SIGALRM, or of another signal, with these flags. `soon` sends SIGALRM
- * in 50 ms. `caught` prints how many signals came. */
+/* `signals` and `signals_of` install a handler for SIGALRM, or for another signal, with these flags. `soon` sends
+ * SIGALRM in 50 ms. `caught` prints how many signals arrived. */
 void signals(int flags);
 void signals_of(int number, int flags);
 void soon(void);
@@ -153,7 +153,7 @@ void caught(void);
 void lasts_from(void);
 void lasted(int milliseconds);
 
-/* Functions that set options and print them. */
+/* Functions that set socket options, and functions that print them. */
 int set(int fd, int level, int option, int value);
 void get(int fd, int level, int option, socklen_t length);
 void get_length(int fd, int level, int option, socklen_t length);

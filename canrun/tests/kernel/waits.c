@@ -2,7 +2,7 @@
 #include "probe.h"
 #include <sys/stat.h>
 
-/* How many milliseconds to wait for frames that must come, and the maximum number of frames that are read. */
+/* How many milliseconds to wait for frames that must arrive, and the maximum number of frames to read. */
 enum { PATIENCE = 5000, MOST = 40 };
 
 static bool comes(int fd, short wanted, int milliseconds) {

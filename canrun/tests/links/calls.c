@@ -10,7 +10,7 @@
 
 /* ---- ip ---- */
 
-/* Runs a command and reads its output, without canbusd-run's notes. Returns the command's status. */
+/* Runs a command and reads its output, without the notes of canbusd-run. Returns the exit status of the command. */
 static int output_of(const char *words, char *room, size_t size) {
     size_t have = 0;
     char line[2048];

@@ -13,7 +13,7 @@
 void reset(void);
 
 /* `shows` runs ip(8) with these words, and prints the part of the output that matches this regular expression, or `-`
- * without a match. `status_of` prints the exit status. */
+ * if nothing matches. `status_of` prints the exit status. */
 void shows(const char *words, const char *expression);
 void status_of(const char *words);
 /* Prints the output of a shell command. */

@@ -52,7 +52,7 @@ int main(void) {
     for (unsigned i = 0; i < FRAMES; i++) {
         send_patiently(writer, 0x100, i);
     }
-    /* Each frame arrives once from each interface of its bus: can0 and can1, or car0 and car1. */
+    /* Each frame arrives once at each interface of its bus: can0 and can1, or car0 and car1. */
     for (; count < 4 * FRAMES; count++) {
         struct can_frame frame = take(all, &moment);
         CHECK(moment >= last);

@@ -48,7 +48,7 @@
         }                                                                                                          \
     } while (0)
 
-/* How many milliseconds to wait for a frame that must come, on any machine. */
+/* How many milliseconds to wait for a frame that must arrive. It is enough on any machine. */
 #define PATIENCE 20000
 /* How many milliseconds to wait for unwanted frames. */
 #define QUIET 100

@@ -140,7 +140,7 @@ static void order_of_arguments(void) {
     CHECK(close(fd) == 0 && close(writer) == 0);
 }
 
-/* A filter for 11-bit identifiers ignores the other bits (can_rcv_list_find of net/can/af_can.c). */
+/* A filter for 11-bit identifiers ignores the other bits (see can_rcv_list_find in net/can/af_can.c). */
 static void filters(void) {
     int fd = bound("can1"), writer = bound("can0");
     struct can_filter filter = {0x12345123, 0xDFFFFFFF};

@@ -1,5 +1,5 @@
-/* Filters with the rule of linux/can.h: received & mask == id & mask, inverted by CAN_INV_FILTER. Some filter lists are
- * too long for one message to the server. */
+/* Filters follow the rule in linux/can.h: received & mask == id & mask, inverted by CAN_INV_FILTER. Some filter lists
+ * are too long for one message to the server. */
 #include "check.h"
 
 #define MANY 200

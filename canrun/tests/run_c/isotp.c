@@ -84,7 +84,7 @@ static void several_frames(void) {
     SAYS("\x22"
          "defghij");
     reads(fd, "0123456789abcdefghij", 20);
-    /* A frame with a wrong sequence number, and frames that stop too early. */
+    /* A frame with a wrong sequence number, and a message whose frames stop too early. */
     SAYS("\x10\x14"
          "012345");
     SEES("\x30\0\0");

@@ -117,7 +117,7 @@ static void turn_notices_on(int fd) {
     CHECK(setsockopt(fd, SOL_SOCKET, SO_TIMESTAMPING, &stamps, sizeof stamps) == 0);
 }
 
-/* Takes an entry from the error queue. Returns the number of its message, or 0. */
+/* Reads an entry from the error queue. Returns the number of its message, or 0 if there is no entry. */
 static unsigned take_notice(int fd) {
     char control[300];
     struct msghdr message = {.msg_control = control, .msg_controllen = sizeof control};
@@ -197,7 +197,7 @@ static void wait_once(unsigned k) {
     CHECK(close(fd) == 0 && close(ecu) == 0);
 }
 
-/* An epoll that waits for messages also reports an entry of the error queue. */
+/* An epoll descriptor that waits for messages also reports an entry in the error queue. */
 static void epolled(void) {
     int fd = node("can0", TESTER), epoll = epoll_create1(0);
     struct epoll_event event = {.events = EPOLLIN, .data.fd = fd};

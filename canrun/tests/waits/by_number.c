@@ -226,7 +226,7 @@ static void by_number_futex_wake_op(void) {
     note("%u", other);
 }
 
-/* Two words at the same offset in two pages, used by two processes. */
+/* Two processes use two words at the same offset in two pages. */
 static void by_number_futex_shared(void) {
     char *pages = mmap(NULL, 8192, PROT_READ | PROT_WRITE, MAP_SHARED | MAP_ANONYMOUS, -1, 0);
     uint32_t *first = (uint32_t *)pages, *second = (uint32_t *)(pages + 4096);

@@ -46,7 +46,7 @@ static void processes_vfork(void) {
     ends_with_child(pid);
 }
 
-/* Forks by a direct system call, which the C library does not notice. */
+/* Forks with a direct system call, which the C library does not notice. */
 static void processes_raw_fork(void) {
     begin();
     pid_t pid = _Fork();

@@ -17,7 +17,7 @@
 #include <time.h>
 #include <unistd.h>
 
-/* The awaited event comes after SOON milliseconds. A wait without an event has the timeout SOON, and a wait that must
+/* The awaited event occurs after SOON milliseconds. A wait without an event has the timeout SOON, and a wait that must
  * end early has the timeout LONG. */
 #define SOON 30
 #define LONG 4000
@@ -38,10 +38,10 @@ void end(long result);
 /* Ends the measurement of a call that returns its error number. */
 void ends_with(int error);
 
-/* Appends to the printed result. */
+/* Appends to the result that is printed. */
 void note(const char *format, ...) __attribute__((format(printf, 1, 2)));
 
-/* `in_ms` returns a duration, and `after_ms` returns the time after this duration by this clock. */
+/* `in_ms` returns a duration. `after_ms` returns the time after this duration on this clock. */
 struct timespec in_ms(int ms);
 struct timespec after_ms(clockid_t id, int ms);
 

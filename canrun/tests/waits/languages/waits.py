@@ -261,7 +261,7 @@ def multiprocessing_queue():
     return result
 
 
-#: This wait reads the clock until its time is over, and virtual time advances in steps.
+#: This wait reads the clock in a loop until its time has passed. Virtual time advances in steps.
 @case(30.01)
 def multiprocessing_join():
     child = multiprocessing.get_context("fork").Process(target=time.sleep, args=(LONG,))
