@@ -2,10 +2,11 @@
 # make run          builds canbusd-run only (canrun/)
 # make library      proves and builds libcanbusd: libcanbusd/out/
 # make check        runs everything that needs no kit: tests of the program, of canbusd-run and of the Python package, examples,
-#                   types, formatting and linters. Slow tests are left out. Skipped tests are listed with what they lack.
+#                   types, formatting and linters. Slow tests are left out. Skipped tests are listed with the reason.
 #                   PART=bench runs one part; `scripts/outside --list` prints the parts
-# make test         runs the test command: all of `make check`, and each proof, edit and test of Rattle. PART=unproved runs what
-#                   is needed while Rattle code changes. scripts/test lists the parts; `scripts/setup` installs what it needs
+# make test         runs the test command: all of `make check`, and every proof, edit and test of Rattle. PART=unproved runs
+#                   the tests for work in progress on Rattle code. scripts/test lists the parts; `scripts/setup` installs the
+#                   packages that they need
 # make dist         puts the proved program into dist/, with a file that names the sources it was built from
 # make dist-run     puts canbusd-run into dist/, with such a file
 # make dist-library puts the proved libcanbusd into dist/, with such a file
@@ -14,12 +15,12 @@
 #                   documents and examples under PREFIX (after DESTDIR). The package goes to PYTHONDIR, by default the folder
 #                   below PREFIX in which python3 looks for packages
 # make uninstall    removes the installed files
-# make deb          makes a Debian package of what make install installs
-# make wheel        makes a wheel for pip, of the Python package with the programs that make install takes
-# make clean        removes what was built here
+# make deb          builds a Debian package of the files that make install installs
+# make wheel        builds a wheel for pip: the Python package with the programs that make install installs
+# make clean        removes the files that were built here
 
 PREFIX ?= /usr/local
-# In PREFIX=~/inst some shells do not replace ~ with the home folder.
+# Some shells do not expand the ~ in PREFIX=~/inst.
 ifneq ($(filter ~/%,$(PREFIX)),)
 override PREFIX := $(patsubst ~/%,$(HOME)/%,$(PREFIX))
 endif
@@ -102,7 +103,7 @@ uninstall:
 	rm -rf "$(LIBEXECDIR)"
 	rmdir "$(DESTDIR)$(PREFIX)/libexec" 2>/dev/null || true
 
-# Further files of the installation: the tools' completions, which are links to canbusd's, the systemd unit, documents
+# The other files of the installation: the tools' completions, which are links to canbusd's, the systemd unit, documents
 # and examples.
 TOOL_COMPLETIONS = $(foreach tool,$(TOOLS),"$(COMPLETIONS)/$(tool)" "$(FISH)/$(tool).fish")
 UNITS = $(DESTDIR)$(PREFIX)/lib/systemd/system
@@ -125,8 +126,8 @@ uninstall-extras:
 	rm -f $(TOOL_COMPLETIONS) "$(UNITS)/canbusd.service"
 	rm -rf "$(DOCDIR)"
 
-# Installs canbusd-run if one fits the sources or a gcc can build it. The command finds its libraries and the bridge in
-# its own folder.
+# Installs canbusd-run if there is one that fits the sources, or if a gcc can build it. The command finds its libraries
+# and the bridge in its own folder.
 install: install-run
 install-run:
 	install -d "$(BINDIR)" "$(LIBEXECDIR)" "$(MANDIR)" "$(COMPLETIONS)" "$(ZSH)" "$(FISH)"
@@ -144,7 +145,7 @@ uninstall-run:
 	rm -f "$(BINDIR)/canbusd-run" "$(MANDIR)/canbusd-run.1" "$(COMPLETIONS)/canbusd-run" "$(ZSH)/_canbusd-run" \
 		"$(FISH)/canbusd-run.fish"
 
-# Installs libcanbusd if one fits the sources, built here or in dist/.
+# Installs libcanbusd if there is one that fits the sources, built here or in dist/.
 LIBDIR ?= $(PREFIX)/lib
 install: install-library
 install-library:

@@ -92,7 +92,7 @@ def events_of(record):
 
 
 class Workload:
-    """One workload at one size: its files, and the runs on them."""
+    """The files and the runs of one workload at one size."""
 
     def __init__(self, name, n, folder, programs, words):
         self.name, self.n, self.words = name, n, words

@@ -260,7 +260,7 @@ static inline u32 moment_place(u64 m) {
     return moment_count - 1;
 }
 
-/* Caches the text of the last timestamp that was printed. */
+/* Caches the last printed timestamp as a string. */
 static u32 text_of = UINT32_MAX, text_len;
 static char moment_text[32];
 
@@ -297,7 +297,7 @@ static inline char *put_frame(char *o, const frame *f) {
     return put_bytes(o, f->data, len);
 }
 
-/* An error item has the form code << 28 | interface << 24 | three bytes. */
+/* An error item has the format code << 28 | interface << 24 | three bytes. */
 enum { E_OFF = 1, E_RESTART, E_STATE, E_FAULT, E_ACK };
 static const char error_class[6][4] = {"", "040", "100", "204", "088", "0A0"};
 
@@ -680,7 +680,7 @@ static inline void settle_all(socket_t *s) {
     s->all = !s->filters || (s->join ? s->filters->all_and : s->filters->all_or);
 }
 
-/* Sets a filter list, which is already at filter_list + filter_end. */
+/* Sets a filter list, which the caller has already stored at filter_list + filter_end. */
 static entry *do_filters(u32 number, socket_t *s, u32 count) {
     entry *e = new_entry(FILTERS, 0, FINE, number, filter_end, count);
     if (!s)
@@ -732,7 +732,7 @@ static inline void set_head(u32 i) {
         with_head &= ~(1u << i);
 }
 
-/* Sends a frame whose data are already at frames + frame_end. */
+/* Sends a frame whose data the caller has already stored at frames + frame_end. */
 static inline entry *do_send(u32 number, socket_t *s, u32 word, u32 len) {
     u32 place = frame_end;
     frame *f = (frame *)(frames + place);
@@ -870,8 +870,8 @@ static void post_faults(u32 i, u32 ref, u32 w, u32 cls, u32 verdict, u32 hit) {
         post_error(i, ref, E_ACK, 0x8019);
 }
 
-/* Runs an attempt. Each socket gets its items in this order: the data frame, then the error message frames of its
- * interface. Those about the fault come before those about the state. */
+/* Runs an attempt. Every socket gets its items in this order: the data frame, then the error message frames of its
+ * interface. Error message frames about the fault come before those about the state. */
 static entry *do_attempt(u32 moment, u32 verdict, u32 set) {
     u32 due = 0, ref = entries;
     entry *e = new_entry(ATTEMPT | verdict << 3, IDLE, set, 0, moment, 0);
@@ -1046,7 +1046,7 @@ static bool is_utf8(const u8 *p, size_t n) {
     return true;
 }
 
-/* Reads a whole file. After the text there is room that may be read. */
+/* Reads a whole file into a buffer. The AFTER bytes after the contents may be read too. */
 enum { AFTER = 16 * 1024 };
 
 static char *read_file(const char *path, size_t *size) {
@@ -1324,7 +1324,7 @@ static char *put_stats(char *o, const session_t *s) {
     return o;
 }
 
-/* Handles `send` and `sendfd`, whose word checks the caller has done. */
+/* Handles `send` and `sendfd`. The caller has already checked the words. */
 static char *send_words(session_t *s, char *o, const word_t *w, u32 n, bool fd) {
     u32 word, len;
     if (n < 3)
@@ -1500,7 +1500,7 @@ static char *message(session_t *s, const char *p, const char *end, char *o) {
 }
 
 /* Handles a `send` in its simplest form, from the byte after `<`.  Returns a pointer to the byte after `>`, or NULL for
- * any other form. The text must end with a byte that is no digit, no space and no `>`. */
+ * any other form. The string must end with a byte that is not a digit, a space or `>`. */
 static inline const char *plain_send(session_t *s, const char *p, char **o) {
     if (memcmp(p, " send ", 6) != 0)
         return NULL;
@@ -1550,7 +1550,7 @@ static inline const char *plain_send(session_t *s, const char *p, char **o) {
     return p + 1;
 }
 
-/* Returns the position of the next `<` or `>`, or the end. */
+/* Returns a pointer to the next `<` or `>`, or `end` if there is none. */
 static inline const char *next_mark(const char *p, const char *end) {
     while (end - p >= 8) {
         u64 x;
@@ -1566,7 +1566,7 @@ static inline const char *next_mark(const char *p, const char *end) {
     return p;
 }
 
-/* Handles input of a session. The byte at `end` is the line's LF. */
+/* Handles input from a session. The byte at `end` is the line's LF. */
 static char *feed(session_t *s, const char *p, const char *end, char *o) {
     while (s->mode != ENDED) {
         if (!s->inside) {
@@ -1671,7 +1671,7 @@ static char *drain(session_t *s, char *o) {
 
 /* ---------------------------------------------------------------- bench */
 
-/* Caches the names of a set of interfaces, joined by commas: the last text for each winner. */
+/* Caches, for each winner, the last set of interfaces and its string: the names joined by commas. */
 static struct {
     u32 set, len;
     char text[256 + 16];
@@ -1748,7 +1748,7 @@ static bool read_moment(const char *p, const char *end, u64 *m) {
     return true;
 }
 
-/* Reads a session number at p. Returns a pointer to the byte after it, or NULL. */
+/* Parses the session number at p. Returns a pointer to the byte after the number, or NULL if the number is bad. */
 static inline const char *read_session(const char *p, const char *end, u32 *s) {
     if (p == end || *p < '1' || *p > '9')
         return NULL;
@@ -1917,8 +1917,8 @@ static void write_record(const char *path) {
 
 /* ---------------------------------------------------------------- audit */
 
-/* A line is correct if it is exactly the text that the replay gives.  Only a line that differs is parsed by the strict
- * rules below, to distinguish `bad line` from `wrong`. */
+/* A line is correct if it is identical to the line that the replay writes. Only a line that differs is parsed by the
+ * strict rules below, to distinguish `bad line` from `wrong`. */
 
 static inline socket_t *socket_of(u64 number) {
     return number < sockets_ever && slot_of[number] ? slots + slot_of[number] - 1 : NULL;
@@ -1980,7 +1980,7 @@ static bool take_moment(cursor *c, u64 *m) {
     return true;
 }
 
-/* Parses a data, remote or FD frame. Its data are appended to the frames. */
+/* Parses a data, remote or FD frame, and appends its data to `frames`. */
 static bool take_frame(cursor *c, u32 *word, u32 *len) {
     const char *mark = c->p;
     while (mark < c->end && hex_value[(u8)*mark] < 16)
@@ -2017,8 +2017,8 @@ static bool take_frame(cursor *c, u32 *word, u32 *len) {
     return is_fd_length(*len);
 }
 
-/* Parses the event at c. If `run` is set, it also executes the event as far as its text is correct. Returns the event's
- * kind, or -1. */
+/* Parses the event at c. If `run` is set, also executes the part of the event that was parsed. Returns the kind of the
+ * event, or -1 for a bad event. */
 static int take_event(cursor *c, bool run, bool *fd, entry **done) {
     u64 i, n, m;
     u32 v, len;

@@ -28,7 +28,7 @@ ROOT = os.path.dirname(os.path.dirname(os.path.abspath(__file__)))
 COMMANDS = {"page": ["report"], "story": ["report", "--text", "--last", "0"], "replay": ["replay"]}
 # The number of frames in each interface's queue.
 QUEUE = 100
-# For each socket of `faults`, the mask of the error message frames that it receives.
+# The masks of the sockets of `faults`: which error message frames each socket receives.
 ERRORS = ("1FFFFFFF", "140", "88", "0")
 FAULTS = ("global bit", "global form", "lastbit", "local crc can1", "local stuff can2,can3")
 
@@ -76,7 +76,8 @@ def calm(attempts, frames, rng):
 
 
 def contend(attempts, rng):
-    """Makes a run in rounds of four full queues. The identifiers contain the sender, so no two senders' are equal."""
+    """Builds the record of a run. In each round four queues are filled and then emptied. Identifiers contain the
+    sender, so no two senders use the same identifier."""
     run = Run(4)
     for _ in range(attempts // (4 * QUEUE)):
         queues = [
@@ -91,8 +92,8 @@ def contend(attempts, rng):
 
 
 def faults(attempts, rng, program, folder):
-    """Makes a run with a bench in which each interface queues 100 frames. A tenth of the attempts have faults, some of
-    them in a row."""
+    """Makes a run with a bench in which every interface queues 100 frames. A tenth of the attempts have faults, and
+    some faults come in long rows."""
     lines, bus = [], ",".join(f"can{number}" for number in range(4))
     for number in range(4):
         lines += [
@@ -136,8 +137,7 @@ def record_of(kind, attempts, program, folder):
     """Returns the path of the record of this kind of run. Makes the record if it is missing."""
     path = os.path.join(folder, f"{kind}-{attempts}.rec")
     if not os.path.exists(path):
-        # A separate process makes the record. Otherwise the memory of this process would count for the measured
-        # command.
+        # The record is made in a separate process, so that its memory is not counted as memory of the measured command.
         maker = multiprocessing.Process(target=make_record, args=(path, kind, attempts, program, folder))
         maker.start()
         maker.join()
@@ -154,7 +154,7 @@ def make_record(path, kind, attempts, program, folder):
 
 
 def measured(words, folder, **variables):
-    """Runs a command. Returns processor seconds, wall time, megabytes, and a hash of the output."""
+    """Runs a command. Returns the processor seconds, wall time, memory in megabytes, and a hash of the output."""
     variables = {**os.environ, **variables, "PYTHONPYCACHEPREFIX": os.path.join(folder, "bytecode")}
     variables.pop("PYTHONDONTWRITEBYTECODE", None)
     begin = time.monotonic()

@@ -1,8 +1,6 @@
 /* Measures how long a frame takes from one program with a CAN socket to another, in microseconds: run_latency SENDER
- * RECEIVER COUNT.
- *
- * The frame contains the time of its write. The receiver is a separate process, and asks for the next frame. Prints the
- * median and the 99th percentile. */
+ * RECEIVER COUNT. The frame contains the time of its write. The receiver is a separate process, and requests the next
+ * frame. Prints the median and the 99th percentile. */
 #include <linux/can.h>
 #include <net/if.h>
 #include <stdint.h>

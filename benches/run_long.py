@@ -35,7 +35,8 @@ WORDS = [
     "--write",
     "16384",
 ]
-#: The options of each kind of server. The servers `end` have the largest limit on entries.
+#: The options of each kind of server. A server `end`, which writes its record at the end, has the largest limit on
+#: entries.
 KINDS = {
     "end": ["--limit", "16777216", "--out", "."],
     "live": ["--record", "live", "--out", "."],
@@ -57,7 +58,7 @@ class Server:
         assert self.child.stdout.readline().startswith("listening "), "the server does not listen"
 
     def load(self, *words):
-        """Returns the figures of serve_load, which checks that each frame came once and in order."""
+        """Runs serve_load and returns its figures. serve_load checks that every frame arrives once and in order."""
         where = ["--unix", os.path.join(self.folder.name, "socket"), "--pid", str(self.child.pid)]
         line = [LOAD, *where, "--names", "can0,can1", "--seconds", "3600", *words]
         words = subprocess.run(line, stdout=subprocess.PIPE, text=True, check=True).stdout.split()
@@ -69,8 +70,8 @@ class Server:
             return int(re.search(r"^VmRSS:\s+(\d+) kB", status.read(), re.M)[1]) / 1000
 
     def end(self):
-        """Ends the server. Returns the number of entries, the seconds that the end took, and the number of bytes
-        written."""
+        """Stops the server. Returns the number of entries, how many seconds the server took to stop, and the number of
+        bytes written."""
         begin = time.monotonic()
         written = self.child.communicate(timeout=3600)[0]
         took = time.monotonic() - begin
@@ -88,8 +89,8 @@ class Server:
 
 
 def measured(options, words):
-    """Returns entries a second, the seconds that the end took, megabytes, and bytes for an entry; then the median and
-    the 99th percentile of the time from send to receive."""
+    """Returns entries per second, the seconds that the server took to stop, megabytes, and bytes per entry; then the
+    median and the 99th percentile of the time from send to receive."""
     sessions = ["--sessions", str(1 + options.receivers), "--senders", "1"]
     with Server(options.program, options.folder, words) as server:
         found = server.load(*sessions, "--window", str(options.window), "--frames", str(options.frames))

@@ -43,7 +43,7 @@ class Setting:
         return tuple(map(float, subprocess.run(words, stdout=subprocess.PIPE, text=True, check=True).stdout.split()))
 
     def rate(self, count):
-        """Returns the frames a second from cangen to candump. Raises AssertionError if a frame is lost."""
+        """Returns the rate from cangen to candump in frames per second. Raises AssertionError if a frame is lost."""
         path = os.path.join(self.folder, "dump")
         with open(path, "w+", encoding="utf-8") as dump:
             receiver = subprocess.Popen(self.words("candump", "-L", "-n", str(count), "can1"), stdout=dump)
@@ -64,7 +64,8 @@ class Setting:
 
 
 def measure(options, listen):
-    """Returns the latencies, each with its 99th percentile, and the rates of each canbusd-run."""
+    """Returns, for each canbusd-run, the results of all runs: the median latencies, the 99th percentiles and the frame
+    rates."""
     results = [([], [], []) for _ in options.run]
     for _ in range(RUNS):
         for run, (latencies, worst, rates) in zip(options.run, results):

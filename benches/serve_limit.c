@@ -1,16 +1,16 @@
 /* The speed limit that `canbusd serve` is measured against: a plain, single-threaded
  * server of socketcand's raw mode, with epoll.
  *
- * It has one bus without faults, with mode always and pace 0.  Each turn of its loop reads
- * the input of each session, runs the bus until no frame waits, and then writes to each
- * session everything that is queued for it, in one call.  A receive queue is a text that
- * is not written yet, and a count.  It grows only while the session's socket is full.
+ * The server has one bus without faults, with mode always and pace 0.  Each iteration of its
+ * loop reads the input from every session, runs the bus until no frame is waiting, and then
+ * writes to every session all of its queued output, in one call.  A receive queue consists of
+ * unwritten output and a count.  It grows only while the session's socket is full.
  *
- * Commands: echo, open, rawmode, send, filter, recvown, loopback, stats, close.  All others
- * are unknown commands.
+ * Commands: echo, open, rawmode, send, filter, recvown, loopback, stats, close.  All other
+ * commands are unknown.
  *
- * If it is built with -DWRONG, `--wrong KIND` makes it do one thing wrong now and then, so
- * that tests can check whether a client notices.
+ * If the server is built with -DWRONG, `--wrong KIND` makes it do one thing wrong now and
+ * then, so that tests can check whether a client notices.
  */
 #define _GNU_SOURCE
 #include <arpa/inet.h>
@@ -141,7 +141,7 @@ static void make_tables(void) {
         hex_value['A' + i - 10] = hex_value['a' + i - 10] = (u8)i;
 }
 
-/* ---------------------------------------------------------------- output of a session */
+/* ---------------------------------------------------------------- output to a session */
 
 static void watch(const session_t *s, int op) {
     struct epoll_event e = {.events = s->blocked ? EPOLLOUT : EPOLLIN};
@@ -149,7 +149,7 @@ static void watch(const session_t *s, int op) {
     epoll_ctl(epoll_fd, op, s->fd, &e);
 }
 
-/* Returns a place for n more bytes after the queued output, which grows if necessary. */
+/* Returns a pointer to free space for n more bytes after the queued output. Enlarges the buffer if necessary. */
 static char *place(session_t *s, size_t n) {
     if (UNLIKELY(s->size - s->to < n)) {
         if (s->from > s->size / 2) {
@@ -176,7 +176,7 @@ static void answer(session_t *s, const char *text) {
     }
 }
 
-/* Writes the queued output, as far as the socket accepts it. */
+/* Writes as much of the queued output as the socket accepts. */
 static void flush(session_t *s) {
     while (s->mode != GONE) {
         if (s->from == s->cut) {
@@ -294,7 +294,7 @@ static void wrong_post(session_t *s, char *text, u32 len, u32 word) {
     }
 }
 
-/* Runs attempts until no frame waits. */
+/* Runs attempts until no frame is waiting. */
 static void run_bus(void) {
     while (with_head) {
         u64 best = UINT64_MAX;
@@ -475,7 +475,7 @@ static const char *close_words(session_t *s) {
 
 enum { IN_NO_BUS = 1 << NO_BUS, IN_OPENED = 1 << OPENED, IN_RAW = 1 << RAW };
 
-/* Handles one whole message, and returns the text of the answer. */
+/* Handles one whole message, and returns the answer as a string. */
 static const char *message(session_t *s, const char *p, const char *end) {
     static const struct {
         char text[10];
@@ -542,7 +542,7 @@ static const char *message(session_t *s, const char *p, const char *end) {
 }
 
 /* Handles a `send` in its simplest form, from the byte after `<`.  Returns a pointer to the byte after `>`, or NULL for
- * any other form. The text must end with a byte that is no digit, no space and no `>`. */
+ * any other form. The string must end with a byte that is not a digit, a space or `>`. */
 static inline const char *plain_send(session_t *s, const char *p) {
     if (memcmp(p, " send ", 6) != 0)
         return NULL;
@@ -585,7 +585,8 @@ static inline const char *plain_send(session_t *s, const char *p) {
     return p + 1;
 }
 
-/* Handles input of a session. The byte at `end` is LF, and so is the byte after a message that is kept. */
+/* Handles input from a session. The byte at `end` is LF. If the message was kept from earlier input, the byte after it
+   is LF too. */
 static void feed(session_t *s, const char *p, const char *end) {
     while (s->mode != ENDED && s->mode != GONE) {
         if (!s->inside) {

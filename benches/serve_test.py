@@ -50,7 +50,7 @@ def connect(server):
 
 
 def read_until(one, wanted):
-    """Reads until the input is as long as the expected text, or until nothing more comes."""
+    """Reads until the input is as long as the expected answer, or until no more bytes arrive."""
     got = b""
     try:
         while len(got) < len(wanted):
@@ -64,7 +64,7 @@ def read_until(one, wanted):
 
 
 def without_moments(text):
-    """Replaces the timestamp of each frame with T. The timestamp must be near the present time."""
+    """Replaces the timestamp of each frame with T. Checks that the timestamp is close to the present time."""
     words = text.split(b" ")
     for i, word in enumerate(words):
         if word.count(b".") == 1 and len(word) >= 8:
@@ -309,7 +309,7 @@ def silent(path):
 
 def test_wrong(folder):
     wrong = f"{HERE}/serve_wrong --port {{port}} --txqueue 1024 --rxqueue 65536 --wrong"
-    # 10,000 frames go to 3 sessions each. One in 1,000 is then 30 receives or 10 sends.
+    # 10,000 frames go to 3 sessions each. If one in 1,000 has a fault, the fault occurs in 30 receives or in 10 sends.
     for kind, every, words, key, count in (
         ("drop", 1000, "", "lost", "30"),
         ("drop", 25001, "", "lost", "1"),

@@ -1,10 +1,10 @@
 #!/usr/bin/env python3
 """Measures how fast virtual time is: a start, an idle hour, nodes in C that read nothing or everything, and pytest tests.
 
-    benches/virtual.py [SECONDS]    this many seconds of bus time (20); all other sizes depend on it
+    benches/virtual.py [SECONDS]    measures SECONDS of bus time (by default 20)
 
-CANBUSD and CANBUSD_RUN name the programs. A turn counts each time a thread gets the turn. Processor time is that of all
-programs of the run, including the server."""
+CANBUSD and CANBUSD_RUN name the programs. Turns are the scheduling turns of all threads. Processor time is the sum for
+all programs of the run, including the server."""
 
 import os
 import re
@@ -31,7 +31,7 @@ TEN = SERVER + (
 )
 START = '. "$CASES/server.sh"; start can0,can1; inside "$NODES/cyclic" can0 100 10000 1; stop'
 STARTS = 20
-#: The seconds until all queues are full, which are not measured.
+#: How many seconds pass until all queues are full. These seconds are not measured.
 FIRST = 10
 #: The name of each program, its source and a compiler flag.
 NODES = (
@@ -73,7 +73,7 @@ PYTEST = 'mkdir "$OUT"; cd "$OUT"; "$PYTHON" -m pytest -q -p canbusd.pytest_plug
 
 
 def run(name, script, seconds, folder):
-    """Runs a script for this many seconds. Returns the processor time and the number of turns."""
+    """Runs a script for `seconds` seconds of bus time. Returns the processor time and how many turns there were."""
     env = {**os.environ, "RUN": RUN, "CASES": CASES, "NODES": folder, "FRAMES": str(seconds * 100)}
     env.setdefault("CANBUSD", os.path.join(ROOT, "dist", "canbusd"))
     env.update(PYTHON=sys.executable, PYTHONPATH=os.path.join(ROOT, "python", "src"), CANBUSD_RUN=RUN)
@@ -88,8 +88,8 @@ def run(name, script, seconds, folder):
 
 
 def measure(name, script, seconds, frames, whole, folder):
-    """Prints the cost of this many seconds of a script, without its first seconds, in which queues fill. A second has
-    this many frames. If `frames` is 0, measures the whole run of `whole` seconds."""
+    """Prints what `seconds` seconds of a script cost, without the first seconds, in which queues fill. There are
+    `frames` frames in a second. If `frames` is 0, measures the whole run of `whole` seconds."""
     first, turns = run(name, script, FIRST if frames else whole, folder)
     if not frames:
         print(f"{name}: {first:.1f} s of a processor for {whole} s of bus time", flush=True)

@@ -1,7 +1,8 @@
-"""The common part of the gate's scripts: the kit's view of the crates, the results of earlier runs, and parallel lanes of
-work.
+"""Functions that the gate's scripts share: the kit's view of the crates, the results of earlier runs, and parallel
+lanes of work.
 
-`rt` and its library belong to the kit, so they are loaded from the folder that contains the command rt."""
+`rt` and its library belong to the kit, so they are loaded from the folder that contains the command rt.
+"""
 
 import hashlib
 import importlib.util
@@ -34,7 +35,7 @@ def load_rtlib() -> Any:
 
 
 def files_below(folder: str, parts: Iterable[str]) -> List[str]:
-    """Returns the files in these folders below a folder, in order."""
+    """Returns the sorted paths of all files in these parts of a folder."""
     found = []
     for part in parts:
         for at, _, names in os.walk(os.path.join(folder, part)):
@@ -43,7 +44,8 @@ def files_below(folder: str, parts: Iterable[str]) -> List[str]:
 
 
 def sum_of(*things: object) -> str:
-    """Returns one hash of these parts: a path that begins with / contributes that file's text."""
+    """Returns one hash of its arguments. If an argument is the path of a file and begins with /, the file's contents
+    are hashed instead."""
     total = hashlib.sha256()
     for thing in things:
         if isinstance(thing, str) and thing.startswith("/") and os.path.isfile(thing):
@@ -60,7 +62,7 @@ def kit_sum(rtlib: Any) -> str:
 
 class Kept:
     """Results of earlier runs on this machine, each stored under the hash of its inputs. A missing result is computed
-    again, and with `anew` all results are."""
+    again. With `anew` all results are computed again."""
 
     def __init__(self, kind: str, anew: bool):
         home = os.environ.get("CANBUSD_KEPT") or os.path.join(
@@ -101,7 +103,8 @@ def free_memory() -> int:
 
 
 def in_lanes(work: Callable[[str], Tuple[int, int]], names: Sequence[str], count: int) -> Tuple[int, int]:
-    """Calls `work` for each name, beginning in this order. Returns the sums of its two counts: good and bad."""
+    """Calls `work` for each name, in `count` threads that begin in this order. Returns the sums of the two counts that
+    `work` returns: good and bad."""
     with ThreadPoolExecutor(count) as pool:
         counts = list(pool.map(work, names))
     return sum(good for good, _ in counts), sum(bad for _, bad in counts)

@@ -1,7 +1,7 @@
-"""Finds the functions of a formatted .rt file: their places, and the names that the check has for them.
+"""Finds the functions in a formatted .rt file: their positions, and their names in the check.
 
-This relies on the layout of `rt fmt`: an item ends with the first closing brace at its own indent. If the check has
-another name for a function, scripts/edits notices that before it relies on the name.
+This relies on the layout of `rt fmt`: an item ends with the first closing brace at its own indent. If a function has
+another name in the check, scripts/edits notices that before it relies on the name.
 """
 
 import os
@@ -26,7 +26,7 @@ class Function:
 
 @dataclass(frozen=True)
 class Owner:
-    """An impl or a trait. If its name is empty, the check does not name its functions."""
+    """An impl or a trait. If its name is empty, the names of its functions in the check are unknown."""
 
     start: int
     end: int
@@ -35,7 +35,7 @@ class Owner:
 
 
 def module_of(path: str) -> str:
-    """Returns a::b for src/a/b.rt, and the empty text for the root."""
+    """Returns a::b for src/a/b.rt, and an empty string for the crate root."""
     inner = path[len("src/") : -len(".rt")].replace("/", "::")
     return "" if inner in ("lib", "main") else inner
 
@@ -63,8 +63,8 @@ def types_of(folder: str) -> Types:
 
 
 def parameters_of(text: str) -> Tuple[List[str], str]:
-    """Splits a text after the <> at its beginning. Returns the parameters in the <> without lifetimes, and the rest of
-    the text."""
+    """Splits a string that may begin with a list in <>. Returns the parameters in the list without lifetimes, and the
+    rest of the string."""
     if not text.startswith("<"):
         return [], text
     depth = end = 0
@@ -92,7 +92,8 @@ def short(name: str) -> str:
 
 
 def arguments_of(name: str, parameters: List[str]) -> str:
-    """Returns what the trait's arguments add to the name of an impl: From<AllocError> becomes FromAllocError."""
+    """Returns the suffix that the trait's arguments add to the name of an impl: From<AllocError> becomes
+    FromAllocError."""
     inside = re.search(r"<(.*)>\s*$", name.strip())
     words = re.split(r",\s*(?![^<]*>)", inside[1]) if inside else []
     words = [short(word) for word in words if not word.strip().startswith("'")]
@@ -156,7 +157,7 @@ def body_of(text: str, at: int, indent: str) -> Optional[int]:
 
 
 def functions_of(text: str, module: str, types: Types) -> List[Function]:
-    """Returns the functions of a file that have a body, in order."""
+    """Returns the functions in a file that have a body, in order."""
     owners, found = owners_of(text, module, types), []
     pattern = r'(?m)^([ \t]*)(?:pub(?:\([^)]*\))?\s+)?(?:const\s+)?(?:unsafe\s+)?(?:extern "C"\s+)?fn\s+(\w+)'
     for match in re.finditer(pattern, text):

@@ -1,8 +1,8 @@
 #!/bin/sh
-# Runs an installed canbusd: the program in ../libexec/canbusd, or for `serve` and the commands of the Python package
+# Runs an installed canbusd: the program in ../libexec/canbusd. For `serve` and the commands of the Python package, runs
 # the scripts in the same folder.
 set -eu
-# A write beyond `ulimit -f` fails and is reported; without this line SIGXFSZ would end the program.
+# A write beyond `ulimit -f` fails and is reported. Without this line SIGXFSZ would end the program.
 trap '' XFSZ
 case $0 in */*) script=$0 ;; *) script=./$0 ;; esac
 [ ! -h "$script" ] || script=$(readlink -f -- "$script")

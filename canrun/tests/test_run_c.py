@@ -56,7 +56,8 @@ PLAIN = (
 
 @pytest.fixture(params=["", pytest.param("sanitized", marks=pytest.mark.sanitized)], ids=["plain", "sanitized"])
 def build(request, tmp_path):
-    """Compiles a program and runs it by canbusd-run: once as usual, and once with sanitizers in both."""
+    """Compiles a program and runs it with canbusd-run: once as usual, and once with sanitizers in the program and in
+    canbusd-run."""
     return Build(request, str(tmp_path))
 
 
@@ -82,7 +83,7 @@ class Build:
 
 @pytest.mark.parametrize("name", PLAIN)
 def test_program(build, name):
-    """the program's checks pass, no bridge is left, and the record is legal"""
+    """every program passes its checks, no bridge is left, and the record is legal"""
     with serving(*FAST, "can0,can1") as server:
         build.passes(server, name)
         server.end()
@@ -98,7 +99,7 @@ def test_program_at_unix_path(build, name):
 
 
 def test_stamps(build):
-    """a program reads the same timestamps as the server's log has"""
+    """a program reads the timestamps that are in the server's log"""
     with serving(*FAST, "can0,can1") as server:
         stamps = build.passes(server, "stamps").split()
         server.end()
@@ -115,14 +116,14 @@ def test_any(build):
 
 
 def test_any_order(build):
-    """a socket receives the frames of two buses in order, from the first frame on"""
+    """a socket receives the frames of two buses in order, starting with the first frame"""
     with serving(*FAST, "can0,can1", "car0,car1") as server:
         assert build.passes(server, "any_order") == "600 and 600\n"
         server.end()
 
 
 def test_small_stack(build):
-    """sockets work in threads with the smallest stack, and after a program clears its environment"""
+    """sockets work in threads with the smallest stack, and after a program has cleared its environment"""
     with serving(*FAST, "can0,can1") as server:
         build.passes(server, "small_stack")
         server.end()
@@ -141,7 +142,7 @@ def test_thread_sanitizer(tmp_path, compiler):
 
 
 def test_interfaces_16(build):
-    """sockets work on each interface of a bus with 16 interfaces"""
+    """sockets work on every interface of a bus with 16 interfaces"""
     with serving(*FAST, SIXTEEN) as server:
         build.passes(server, "interfaces_16")
         server.end()
@@ -168,10 +169,11 @@ def test_waiting_signal():
 @pytest.mark.parametrize("number", [signal.SIGINT, signal.SIGTERM, signal.SIGHUP])
 @pytest.mark.parametrize("lots", [1, pytest.param(20, marks=pytest.mark.slow)])
 def test_stopped(number, lots, tmp_path):
-    """with --wait a signal that usually ends programs ends a waiting write, even if its handler has SA_RESTART"""
+    """with --wait a signal that usually ends a program ends its waiting write, even if the signal's handler has
+    SA_RESTART"""
     path = compiled("stopped", str(tmp_path))
     for _ in range(lots):
-        # The bus sends only one frame a minute, and all tries of a program end before that.
+        # The bus sends only one frame a minute. All tries of a program end within that minute.
         with serving("--pace", "60000", "--txqueue", "1", "can0,can1") as server:
             passes(server, path, str(int(number)), "50", options=["--wait"])
             server.end()
@@ -179,8 +181,8 @@ def test_stopped(number, lots, tmp_path):
 
 @pytest.mark.parametrize("room", ["1", "10"])
 def test_deaf_thread(build, room):
-    """with --wait a thread that no signal reaches waits for only a second, so that another thread's handler can end the
-    program; with a queue of 10, quick writes find no room"""
+    """with --wait a thread that gets no signals waits for only a second, so that another thread's handler can end the
+    program; with a queue of 10 frames, the write that waits is a quick write"""
     with serving("--pace", "60000", "--txqueue", room, "can0,can1") as server:
         build.passes(server, "deaf", options=["--wait"])
         server.end()
@@ -194,7 +196,7 @@ def test_busoff(build):
 
 
 def test_gone(build, tmp_path):
-    """calls on sockets return ENODEV and ENXIO if the server ends while the program runs"""
+    """socket calls fail with ENODEV and ENXIO if the server ends while the program runs"""
     path = compiled("gone", str(tmp_path))
     with serving(*FAST, "can0,can1") as server, started(server, path) as child:
         assert child.stdout.readline() == "ready\n", child.stderr.read()
@@ -211,7 +213,7 @@ def test_overflow(build):
 
 
 def test_static(tmp_path):
-    """before a statically linked program starts, a note says that it gets the kernel's sockets"""
+    """before a statically linked program starts, a note says that its sockets will be the kernel's"""
     path = compiled("faults", str(tmp_path), "-static")
     with serving("can0,can1") as server:
         ended = run(server, path)

@@ -35,14 +35,14 @@ NOWHERE = "127.0.0.1:9"
 
 
 def alone(*words, **how):
-    """Runs canbusd-run with these words, without starting a server."""
+    """Runs canbusd-run with these words. Starts no server."""
     how = {"capture_output": True, "text": True, "timeout": 60, "check": False, **how}
     env = {name: value for name, value in os.environ.items() if not name.startswith("CANBUSD_")}
     return subprocess.run([command(), *words], **{"env": env, **how})
 
 
 def test_help():
-    """--help shows each option, and --version shows the version"""
+    """--help shows every option, and --version shows the version"""
     shown = alone("--help")
     assert shown.returncode == 0 and shown.stderr == ""
     for word in ("--address", "--interfaces", "--wait", "CANBUSD_ADDRESS", "CANBUSD_RUN_DEBUG", "125", "126", "127"):
@@ -67,7 +67,7 @@ def test_help():
     ],
 )
 def test_wrong_words(words, line):
-    """wrong arguments end canbusd-run with status 125 and one line"""
+    """after wrong arguments canbusd-run prints one line and ends with status 125"""
     ended = alone(*words)
     assert (ended.returncode, ended.stdout, ended.stderr) == (125, "", f"canbusd-run: {line}\n")
 
@@ -75,7 +75,7 @@ def test_wrong_words(words, line):
 @pytest.mark.quiet
 @pytest.mark.parametrize("how", ["option", "variable", "default"])
 def test_no_server(how, tmp_path, fixed_ports):
-    """without a server canbusd-run ends at once with status 125, and one line names the address and the remedy"""
+    """without a server canbusd-run ends at once with status 125, and prints one line with the address and a remedy"""
     address = f"{tmp_path}/none.socket"
     words = {"option": ["--address", address], "variable": [], "default": []}[how]
     env = {**os.environ, "CANBUSD_ADDRESS": address if how == "variable" else ""}
@@ -97,7 +97,7 @@ def test_no_server(how, tmp_path, fixed_ports):
 
 
 def test_other_server():
-    """if another program than canbusd listens at the address, the line says so"""
+    """if a program other than canbusd listens at the address, the error line says so"""
     with socket.create_server(("127.0.0.1", 0)) as other:
         address = f"127.0.0.1:{other.getsockname()[1]}"
         with subprocess.Popen([command(), "--address", address, "true"], stderr=subprocess.PIPE, text=True) as child:
@@ -110,7 +110,7 @@ def test_other_server():
 
 @pytest.mark.parametrize("answer", [b"< error unknown command >", b"< interfaces can0", b"< interfaces >", b""])
 def test_older_server(answer):
-    """a server that can't list its interfaces is reported as an older version"""
+    """a server that can't list its interfaces is reported as an older version of canbusd"""
     with socket.create_server(("127.0.0.1", 0)) as older:
         address = f"127.0.0.1:{older.getsockname()[1]}"
         with subprocess.Popen([command(), "--address", address, "true"], stderr=subprocess.PIPE, text=True) as child:
@@ -127,7 +127,7 @@ def test_older_server(answer):
 
 
 def test_full_server():
-    """if the server has no free session, the line does not say that it is missing, but names a remedy"""
+    """if the server has no free session, the error line names a remedy, and does not say that there is no server"""
     with serving("can0,can1") as server:
         clients = [plain(server, "can0") for _ in range(64)]
         ended = run(server, "true")
@@ -141,7 +141,7 @@ def test_full_server():
         server.end()
 
 
-#: Sends a frame for each argument. Prints for each received frame whether this socket sent it, and whether this host
+#: Sends a frame for each argument. For each received frame, prints whether this socket sent it, and whether this host
 #: sent it.
 OWN_FRAMES = """
 import socket, struct, sys
@@ -157,10 +157,10 @@ with socket.socket(socket.PF_CAN, socket.SOCK_RAW, socket.CAN_RAW) as can:
 
 
 def test_numbers_of_a_long_run():
-    """after billions of frames a socket still recognises its own frames, and only these"""
+    """after billions of frames a socket still recognises its own frames, and only its own"""
     numbers = [5, 6, 2**24 + 4, 2**24 + 6, 2**32 - 2]
-    # After each own frame the server sends a frame of another socket, whose number falls on the place of an earlier own
-    # frame.
+    # After each own frame the server sends a frame of another socket. The number of that frame has the same index as
+    # the number of an earlier own frame.
     others = [4, 2**24 + 5, 2**24 + 5, 2**24 + 5, 2**24 + 6]
     with socket.create_server(("127.0.0.1", 0)) as server:
         address = f"127.0.0.1:{server.getsockname()[1]}"
@@ -172,7 +172,7 @@ def test_numbers_of_a_long_run():
         server.close()
 
 
-#: Sends two frames, the second by a timer, and prints whether each of the four messages reports a received frame.
+#: Sends two frames, the second with a timer. Prints whether each of the four messages reports a received frame.
 TIMED_FRAMES = """
 import socket, struct
 with socket.socket(socket.PF_CAN, socket.SOCK_DGRAM, socket.CAN_BCM) as can:
@@ -189,8 +189,8 @@ with socket.socket(socket.PF_CAN, socket.SOCK_DGRAM, socket.CAN_BCM) as can:
 
 
 def test_frames_that_come_with_a_verdict():
-    """the program gets the messages that arrive together with the result of a timer's frame, even if nothing arrives
-    after them"""
+    """the program gets the messages that arrive together with the result of a frame from a timer, even if nothing
+    arrives after them"""
     with socket.create_server(("127.0.0.1", 0)) as server:
         address = f"127.0.0.1:{server.getsockname()[1]}"
         numbers = [(1, 2), (3, 4)]
@@ -201,7 +201,8 @@ def test_frames_that_come_with_a_verdict():
 
 
 def answer_sessions(server, numbers):
-    """Greets each session. Answers a send with the frame's number, this frame, and another frame of the interface."""
+    """Sends the greeting to every session. Answers a send with the frame's number, this frame, and another frame on the
+    same interface."""
     with contextlib.suppress(OSError):
         while True:
             connection, _ = server.accept()
@@ -306,7 +307,7 @@ SEND = "import socket, struct; s = socket.socket(29, 3, 1); s.bind(('can0',)); s
 
 
 def test_status_and_pid():
-    """canbusd-run has the status, the signal and the process number of the program"""
+    """canbusd-run has the process ID of the program, and ends with the program's status or signal"""
     with serving("can0,can1") as server:
         assert run(server, "sh", "-c", "exit 7").returncode == 7
         assert run(server, "sh", "-c", "kill -KILL $$").returncode == -signal.SIGKILL
@@ -323,9 +324,8 @@ def test_status_and_pid():
 
 
 def pressed(terminal):
-    """Presses Ctrl-C, and returns the terminal's output from then to the end of its program.
-
-    If Ctrl-C comes just before a wait, Python notices it only when it is woken, so Ctrl-C is pressed again.
+    """Presses Ctrl-C. Returns the output of the terminal from then until its program ends. If Ctrl-C comes just before
+    a wait, Python notices it only when the wait ends, so Ctrl-C is pressed again.
     """
     shown = b""
     for _ in range(WAIT):
@@ -334,7 +334,7 @@ def pressed(terminal):
             while select.select([terminal], [], [], 1)[0]:
                 shown += os.read(terminal, 1000)
         except OSError:
-            # The last process has ended, and reads of the terminal then fail with EIO.
+            # The last process has ended. Reads of the terminal then fail with EIO.
             return shown
     raise AssertionError(f"it goes on: {shown!r}")
 
@@ -364,7 +364,7 @@ WAITING_READER = (
 
 
 def test_kill():
-    """SIGKILL of the program leaves no process and no session"""
+    """after SIGKILL of the program no process and no session is left"""
     with serving("can0,can1", "car0") as server:
         watcher = plain(server, "can1")
         for _ in range(3):
@@ -380,7 +380,7 @@ def test_kill():
 
 
 def test_pipes():
-    """a bridge holds no pipe open, so a reader sees the end of its input when the program has ended"""
+    """a bridge keeps no pipe open, so a reader sees the end of its input after the program has ended"""
     with serving("can0,can1") as server:
         script = 'python3 -c "$1" & read -r _; kill -STOP $!; echo done'
         with started(server, "bash", "-c", f"({script})", "sh", WAITING_READER, stdin=subprocess.PIPE) as child:
@@ -440,7 +440,7 @@ def test_nested():
         server.end()
 
 
-#: Makes two binds, both of which the server refuses.
+#: Makes two bind calls, which the server refuses.
 TWICE = """
 import errno, socket
 with socket.socket(29, 3, 1) as s:
@@ -455,7 +455,7 @@ with socket.socket(29, 3, 1) as s:
 
 
 def test_debug():
-    """with CANBUSD_RUN_DEBUG=1 each refusal is printed with the server's reason"""
+    """with CANBUSD_RUN_DEBUG=1 every refusal is printed with the server's reason"""
     text = SEND.replace("s.send(", "s.send(b'x' * 15) if 0 else s.send(")
     with serving("--limit", "3", "can0,can1") as server:
         client = plain(server, "can0")
@@ -465,7 +465,7 @@ def test_debug():
             ended.returncode == 1
             and "canbusd-run: bind: No space left on device: the server says: record full\n" in ended.stderr
         ), ended
-        # A full record is not the same as bus off. It is reported once, even without CANBUSD_RUN_DEBUG.
+        # A full record is not reported as bus off. It is reported once, even without CANBUSD_RUN_DEBUG.
         again = run(server, "/usr/bin/python3", "-c", TWICE)
         assert again.stderr == "canbusd-run: bind: No space left on device: the server says: record full\n", again
         client.close()
@@ -484,7 +484,7 @@ def test_debug():
         server.end()
 
 
-#: Starts another program by posix_spawn, and then replaces itself with a program from PATH.
+#: Starts another program with posix_spawn, and then replaces itself with a program from PATH.
 STARTS = [
     "/usr/bin/python3",
     "-c",
@@ -516,7 +516,8 @@ def test_obstacles(tmp_path):
             started = run(server, *(word.format(built["static"]) for word in words))
             assert started.stderr == static.stderr, words
         assert run(server, "sh", "-c", built["dynamic"]).stderr == ""
-        # These programs are linked statically, but they use no CAN sockets, or run another program with the library.
+        # These programs are linked statically, but they either use no CAN sockets or run another program with the
+        # library.
         assert run(server, "/usr/bin/python3", "-c", "import ctypes.util; ctypes.util.find_library('c')").stderr == ""
         loader = os.path.realpath("/lib64/ld-linux-x86-64.so.2")
         if os.path.exists(loader):
@@ -537,7 +538,8 @@ def test_obstacles(tmp_path):
 
 
 def test_space_in_path(tmp_path):
-    """the loader can't preload a library from a path with a space, so canbusd-run ends with status 125 and one line"""
+    """the loader can't preload a library whose path contains a space, so canbusd-run prints one line and ends with
+    status 125"""
     folder = tmp_path / "my programs"
     folder.mkdir()
     for name in ("canbusd-run", "canbusd-bridge", "libcanbusd-run.so", "libcanbusd-virtual.so"):
@@ -550,7 +552,7 @@ def test_space_in_path(tmp_path):
 
 @pytest.mark.root
 def test_unprivileged(tmp_path):
-    """the user nobody, who can get no additional rights, can use canbusd-run"""
+    """the user nobody, who can't get additional rights, can use canbusd-run"""
     reader = os.path.dirname(command())
     shutil.copytree(reader, tmp_path / "run", ignore=shutil.ignore_patterns("sanitized"))
     for path in [tmp_path, *tmp_path.parents]:
@@ -572,8 +574,8 @@ def test_unprivileged(tmp_path):
 
 
 def test_64_sockets():
-    """a program can have as many sockets as the server has sessions. One more fails with EUSERS (87), which a line
-    explains. It succeeds after another socket is closed"""
+    """a program can have as many sockets as the server has sessions. One more socket fails with EUSERS (87), and a line
+    gives the reason. It succeeds after another socket has been closed"""
     text = """
 import errno, socket
 def one():
@@ -609,8 +611,8 @@ else:
 
 
 def test_limit_of_descriptors():
-    """a socket that finds no free descriptor fails with EMFILE, whichever of its descriptors is missing, and leaves
-    none open"""
+    """a socket call that finds no free descriptor fails with EMFILE, whichever descriptor it is, and leaves no
+    descriptor open"""
     text = """
 import errno, os, resource, socket
 before = len(os.listdir("/proc/self/fd"))
@@ -637,7 +639,7 @@ print(*seen)
 
 
 def test_limit_of_files():
-    """a program whose limit allows no file writes can still use sockets, and the limit stays"""
+    """a program with a file size limit of 0 can still use sockets, and keeps that limit"""
     text = f"import resource; resource.setrlimit(resource.RLIMIT_FSIZE, (0, 1 << 30)); {SEND}"
     text += "; assert resource.getrlimit(resource.RLIMIT_FSIZE) == (0, 1 << 30)"
     with serving("can0,can1") as server:
@@ -692,7 +694,8 @@ int __wrap_connect(int fd, const struct sockaddr *address, socklen_t length) {
 
 @needs_gcc
 def test_server_closes_before_a_write(tmp_path):
-    """the last messages of a server are read: a full server causes EUSERS, even if the bridge has not written yet"""
+    """the bridge reads the last message of a server that closes the connection: if the server is full, bind fails with
+    EUSERS, even if the bridge has not written yet"""
     text = """
 import errno, socket
 with socket.socket(29, 3, 1) as s:
@@ -735,14 +738,14 @@ def stop(server):
 
 
 def call_of(pid):
-    """Returns the number of the system call in which a process waits, or `running`."""
+    """Returns the number of the system call in which a process waits, or `running` if it does not wait."""
     with open(f"/proc/{pid}/syscall", encoding="utf-8") as file:
         return file.read().split()[0]
 
 
-#: After this many writes to a socket, the process's further writes to it are quick writes.
+#: A process's writes to a socket are quick writes after this many writes to the socket.
 QUICK = 8
-#: Writes as many frames as its argument says, and then waits for an input line.
+#: Writes as many frames as its argument says, and then waits for a line of input.
 WRITER = """
 import errno, socket, struct, sys, threading, time
 s = socket.socket(29, 3, 1)
@@ -757,8 +760,8 @@ sys.stdin.readline()
 
 @pytest.mark.parametrize("before", [0, QUICK])
 def test_server_stops(before):
-    """while the server is stopped, each waiting write fails after its time limit, even if there are several. After the
-    server continues, writes succeed. This holds for writes by pipes and for quick writes"""
+    """while the server is stopped, every waiting write fails after its time limit, even if there are several. After the
+    server continues, writes succeed. This holds for writes through pipes and for quick writes"""
     text = (
         WRITER
         + """
@@ -823,8 +826,8 @@ except OSError as fault:
 
 
 def test_no_descriptors():
-    """a program that has reached its limit of descriptors can write and read frames, but requests to the bridge fail
-    with EMFILE"""
+    """a program that has reached its limit of descriptors can write and read frames, but calls that need the bridge
+    fail with EMFILE"""
     text = """
 import errno, os, resource, socket, struct
 s, t = socket.socket(29, 3, 1), socket.socket(29, 3, 1)
@@ -859,7 +862,7 @@ assert s.getsockopt(socket.SOL_CAN_RAW, socket.CAN_RAW_LOOPBACK) == 1
 
 @needs_gcc
 def test_stored_files():
-    """if the sources and the compiler are the same, a build gives exactly the files in dist/"""
+    """a build from the same sources with the same compiler gives exactly the files in dist/"""
     if not os.access(os.path.join(ROOT, "canrun"), os.W_OK):
         pytest.skip("the sources' folder can't be written")
     compared = subprocess.run(
@@ -893,7 +896,7 @@ _canbusd_run canbusd-run "${@: -1}" "${COMP_WORDS[COMP_CWORD - 1]}" && printf '%
 
 
 def test_bridge_alone():
-    """a bridge that a user starts by hand says what it is for"""
+    """if a user starts a bridge by hand, it prints what it is for"""
     bridge = os.path.join(os.path.dirname(command()), "canbusd-bridge")
     ended = subprocess.run([bridge], capture_output=True, text=True, check=False, stdin=subprocess.DEVNULL)
     assert ended.returncode == 125 and "canbusd-run" in ended.stderr

@@ -1,4 +1,4 @@
-"""The examples that use canbusd-run: a program that is driven to bus off, a car, and a virtual ECU."""
+"""The examples that use canbusd-run: a program that goes bus off, a car, and a virtual ECU."""
 
 import os
 import shutil
@@ -14,7 +14,7 @@ pytest.importorskip("can", reason="no python-can: apt-get install python3-can")
 
 
 def run_example(folder, *options, patience=240):
-    """Runs the tests of an example in the way that the guide shows. Returns the output of pytest."""
+    """Runs the tests of an example as the guide shows. Returns the output of pytest."""
     words = [sys.executable, "-m", "pytest", "-q", "-p", "no:cacheprovider", "-p", "canbusd.pytest_plugin", *options]
     env = {**os.environ, "CANBUSD": program(), "CANBUSD_RUN": command()}
     done = subprocess.run(
@@ -33,8 +33,8 @@ def test_heartbeat():
 @needs_gcc
 @pytest.mark.parametrize("options", [pytest.param((), marks=pytest.mark.quiet), ("--canbusd-virtual",)])
 def test_car(options):
-    """the 12 tests of each instrument cluster pass in real and in virtual time; a busy machine disturbs only those in
-    real time"""
+    """all 12 tests pass for each instrument cluster, in real and in virtual time; a busy machine disturbs only the
+    tests in real time"""
     pytest.importorskip("canmatrix", reason="no canmatrix: apt-get install python3-canmatrix")
     assert "24 passed" in run_example("examples/car", *options)
 

@@ -28,14 +28,14 @@ PYTHON = "/usr/bin/python3"
 
 
 def lines_of(child):
-    """Returns the output of a program, which it ends by Ctrl-C."""
+    """Ends a program with Ctrl-C, and returns its output."""
     child.send_signal(signal.SIGINT)
     return child.communicate(timeout=20)[0].splitlines()
 
 
 @needs("testj1939")
 def test_testj1939(server):  # noqa: F811
-    """messages of one frame and of several frames arrive at the other end of a bus, and at a socket of the same
+    """messages of one frame and of several frames arrive at the other end of the bus, and at a socket on the same
     interface"""
     for sender in "can1", "can0":
         with listening(server, "testj1939", "-r", "-w20", "can0:0x90") as receiver:
@@ -50,7 +50,7 @@ def test_testj1939(server):  # noqa: F811
 
 @needs("testj1939")
 def test_testj1939_echo(server):  # noqa: F811
-    """a message gets its reply"""
+    """an echoed message arrives back at its sender"""
     with listening(server, "testj1939", "-e", "-w20", "can0:0x90"):
         text = passes(server, "testj1939", "-s30", "-r", "-w2", "can1:0x80", "can1:0x90,0x12300")
     assert text.startswith("90 12300: 01 23 45 67 89 ab cd ef\n") and len(text.splitlines()) == 4, text
@@ -58,8 +58,8 @@ def test_testj1939_echo(server):  # noqa: F811
 
 @needs("j1939cat")
 def test_j1939cat(server, tmp_path):  # noqa: F811
-    """a file of a kilobyte arrives complete. The sender may end with an error, as in Debian 12 with the kernel's
-    sockets, because it has no room for the notification"""
+    """a file of a kilobyte arrives complete. The sender may end with an error because it has no room for the
+    notification. Debian 12 with the kernel's sockets has the same error"""
     data = bytes(number * 7 % 256 for number in range(1000))
     (tmp_path / "sent").write_bytes(data)
     with open(tmp_path / "received", "wb") as file:
@@ -72,7 +72,7 @@ def test_j1939cat(server, tmp_path):  # noqa: F811
 
 @needs("j1939spy", "testj1939", "cansend")
 def test_j1939spy(server):  # noqa: F811
-    """j1939spy shows messages to all nodes and to other nodes"""
+    """j1939spy shows messages to all nodes, and messages to other nodes"""
     with listening(server, "stdbuf", "-oL", "j1939spy", "-P", "can0") as spy:
         passes(server, "testj1939", "-s30", "-B", "can1:0x80", "can1:,0x0FE12")
         passes(server, "cansend", "can1", "18EA90FE#00EE00")
@@ -117,7 +117,7 @@ def test_j1939acd(server, tmp_path):  # noqa: F811
     not importlib.util.find_spec("test.test_socket"), reason="no tests of CPython, as of libpython3.11-testsuite"
 )
 def test_cpython(server):  # noqa: F811
-    """CPython's three tests of J1939 pass"""
+    """the three J1939 tests of CPython pass"""
     ended = run(server, PYTHON, "-m", "unittest", "-v", "test.test_socket.J1939Test")
     assert ended.returncode == 0 and "Ran 3 tests" in ended.stderr and "skipped" not in ended.stderr, ended
 
@@ -183,15 +183,15 @@ def test_virtual(tmp_path, nodes):  # noqa: F811
         *(f"{length} bytes: Success" for length in (8, 30, 5000)),
         "30 bytes: No route to host",
     ]
-    # The time begins at the end of the request on the bus. The request has 131 bits and at most 29 stuff bits, of 2
-    # microseconds each.
+    # The time is measured from the end of the request on the bus. The request has 131 bits and at most 29 stuff bits,
+    # of 2 microseconds each.
     given_up = float(sent[3].split(" after ")[1].split()[0])
     assert 1.25 + 131 * 2e-6 <= given_up <= 1.25 + 160 * 2e-6, sent
 
 
 @needs_gcc
 def test_virtual_answers(tmp_path, nodes):  # noqa: F811
-    """in virtual time, in which frames take time, each case also has the kernel's answer"""
+    """in virtual time frames have a duration, and every case still gets the kernel's answer"""
     kernel = answers(file_of("answers.txt"))
     left = case("answers", tmp_path / "run", nodes, PROBE=probe(str(tmp_path)))
     got = answers(left["answers"].decode())

@@ -1,6 +1,6 @@
-"""Compares canbusd-run with a real kernel. The programs of run_c/ pass on the kernel too. Each case of kernel/ has the
-kernel's answer, which is in answers.txt. The exceptions are in differences.txt, each with its line of LIMITS in
-canbusd-run.1."""
+"""Compares canbusd-run with a real kernel. The programs in run_c/ also pass on the kernel. The kernel's answers to the
+cases in kernel/ are stored in answers.txt. Cases with a different answer are listed in differences.txt, each with the
+line in LIMITS (canbusd-run.1) that documents it."""
 
 import concurrent.futures
 import os
@@ -34,12 +34,12 @@ SAME = (
     "passed_by",
     "wrote_past",
 )
-#: The cases are divided among this many servers, because most of their time is waiting.
+#: How many servers share the cases. They run in parallel, because a case spends most of its time waiting.
 LOTS = 12
 
 
 def answers(text):
-    """Returns the cases in a text, each with its answer."""
+    """Parses a string of cases and their answers."""
     return dict(re.findall(r"^(\w+:\w+):(.*)$", text, re.M))
 
 
@@ -55,12 +55,12 @@ def differences(folder=KERNEL):
 
 
 def plain(page):
-    """Returns the words of a manual page without markup."""
+    """Returns the words of a manual page, without markup."""
     return " ".join(re.sub(r"\\f.|\\(?=-)|^\.\S+", "", page, flags=re.M).split())
 
 
 def probe(folder, *more, flags=()):
-    """Compiles the program of the cases, optionally with the cases of further folders."""
+    """Compiles the program with the cases in a folder, and optionally the cases in other folders."""
     path = os.path.join(folder, "probe")
     sources = [
         os.path.join(of, name) for of in (KERNEL, *more) for name in sorted(os.listdir(of)) if name.endswith(".c")
@@ -70,7 +70,7 @@ def probe(folder, *more, flags=()):
 
 
 def answered(program, cases, options=(*FAST, "can0,can1", "vcan0"), settings=(), run_options=(), **how):
-    """Returns the answers of canbusd-run to these cases, from a server of their own."""
+    """Runs these cases on a new server, and returns the answers of canbusd-run."""
     with serving(*options) as server:
         how = {"env": environment(server, **dict(settings)), "options": run_options, **how}
         written = passes(server, program, *cases, patience=300, **how)
@@ -105,7 +105,7 @@ def boots(*words):
 
 @needs_gcc
 def test_answers(tmp_path):
-    """canbusd-run answers each case as the kernel does, or as differences.txt says"""
+    """canbusd-run answers every case as the kernel does, or as differences.txt says"""
     program = probe(str(tmp_path))
     cases = subprocess.run([program, "--list"], stdout=subprocess.PIPE, text=True, check=True).stdout.split()
     wrong = unlike(program, cases, KERNEL)
@@ -113,7 +113,7 @@ def test_answers(tmp_path):
 
 
 def check_differences(folder):
-    """Fails unless each difference is documented in LIMITS, and still occurs."""
+    """Fails unless every difference is documented in LIMITS, and still occurs."""
     limits = plain(file_of("../../../canbusd-run.1").split(".SH LIMITS")[1].split(".SH ENVIRONMENT")[0])
     lines, cases = differences(folder)
     kernel = answers(file_of("answers.txt", folder))
@@ -122,13 +122,13 @@ def check_differences(folder):
 
 
 def test_differences():
-    """each difference is documented in LIMITS, and still occurs"""
+    """every difference is documented in LIMITS, and still occurs"""
     check_differences(KERNEL)
 
 
 @pytest.mark.slow
 def test_recorded():
-    """answers.txt has the answers that the kernel gives now"""
+    """answers.txt contains the answers that the kernel gives now"""
     booted = boots(os.path.join(KERNEL, "answers"))
     assert answers(booted) == answers(file_of("answers.txt"))
 

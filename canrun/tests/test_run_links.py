@@ -1,5 +1,6 @@
-"""canbusd-run: interfaces by netlink. Each case of links/ has the answer of a kernel with a CAN card. Common programs
-find interfaces, change them, and recover them from bus off. Further tests check what these requests cost a server."""
+"""canbusd-run: netlink access to interfaces. Each case in links/ has the answer of a kernel with a CAN card. Common
+programs find interfaces, change them, and recover them from bus off. Further tests check the cost of these requests for
+a server."""
 
 import contextlib
 import os
@@ -30,9 +31,9 @@ from serving import ROOT, come_true, join, plain, serving
 from test_run_kernel import KERNEL, boots, check_differences, probe, unlike
 
 LINKS = os.path.join(ROOT, "canrun", "tests", "links")
-#: The buses of the server for the cases; can2 and can3 stand for the interfaces of the CAN cards.
+#: The buses of the server for the cases. can2 and can3 take the role of the interfaces of the CAN cards.
 CARDS = ("--bitrate", "500000", "can0,can1", "vcan0", "can2,can3")
-#: A fault script destroys a frame of can0 again and again until its sender is bus off.
+#: A bus with a fault script that destroys a frame from can0 again and again until its sender is bus off.
 ATTACK = f"can0,can1@{ROOT}/examples/bus_off_attack.script"
 
 needs_ip = pytest.mark.skipif(not os.path.exists("/usr/sbin/ip"), reason="no ip: apt-get install iproute2")
@@ -43,7 +44,7 @@ IP = "/usr/sbin/ip"
 
 
 def keepers(server):
-    """Returns the process numbers of a server's keepers (canbusd-links)."""
+    """Returns the process IDs of a server's keepers (canbusd-links)."""
     return processes_of(environment(server)["CANBUSD_ADDRESS"], "canbusd-links")
 
 
@@ -55,7 +56,7 @@ def ended(server):
 
 @contextlib.contextmanager
 def bus(*words):
-    """Runs a server, and checks at its end that its keepers end too."""
+    """Runs a server. Checks that its keepers end when it ends."""
     with serving(*words) as server:
         yield server
         ended(server)
@@ -83,7 +84,7 @@ def cases_of(program):
 @needs_ip
 @needs_libsocketcan
 def test_answers(tmp_path):
-    """canbusd-run answers each case as the kernel does, or as differences.txt says"""
+    """canbusd-run answers every case as the kernel does, or as differences.txt says"""
     program = probe(str(tmp_path), LINKS, flags=["-lsocketcan"])
     wrong = unlike(program, cases_of(program), LINKS, options=CARDS)
     assert not wrong, "\n".join(wrong)
@@ -94,7 +95,7 @@ def test_answers(tmp_path):
 @needs_ip
 @needs_libsocketcan
 def test_answers_sanitized(tmp_path):
-    """the answers are the same with sanitizers, and the sanitizers report nothing"""
+    """with sanitizers the answers are the same, and the sanitizers report nothing"""
     folder = str(tmp_path)
     program = probe(folder, LINKS, flags=[*SANITIZERS, "-lsocketcan"])
     reports = f"log_path={folder}/report:verify_asan_link_order=0:detect_stack_use_after_return=0"
@@ -106,13 +107,13 @@ def test_answers_sanitized(tmp_path):
 
 
 def test_differences():
-    """each difference is documented in LIMITS, and still occurs"""
+    """every difference is documented in LIMITS, and still occurs"""
     check_differences(LINKS)
 
 
 @pytest.mark.slow
 def test_recorded():
-    """answers.txt has the answers that the kernel gives now"""
+    """answers.txt contains the answers that the kernel gives now"""
     booted = boots(os.path.join(KERNEL, "answers"), "links")
     with open(os.path.join(LINKS, "answers.txt"), encoding="utf-8") as file:
         recorded = file.read()
@@ -125,7 +126,7 @@ def test_recorded():
 @needs_gcc
 @needs_ip
 def test_bus_off(tmp_path):
-    """state, carrier, error counters and restart counts are those of the server, before and after a restart"""
+    """state, carrier, error counters and restart counts are the same as the server's, before and after a restart"""
     writer = compiled("send_one", str(tmp_path))
     with bus(*FAST, ATTACK) as server:
         assert state_of(server) == ("ERROR-ACTIVE", "0", "0")
@@ -144,8 +145,8 @@ def test_bus_off(tmp_path):
 
 
 def relay(source, target):
-    """Passes all messages on, but holds state reports back until the next reply to a keeper, or until nothing else
-    comes."""
+    """Forwards all messages, but holds state reports back until the next reply to a keeper, or until nothing else
+    arrives."""
     text = items = b""
     source.settimeout(0.1)
     with contextlib.suppress(OSError):
@@ -173,7 +174,7 @@ def relay(source, target):
 
 @contextlib.contextmanager
 def overtaken(server):
-    """Yields an address of the same server at which replies overtake reports that were queued before them."""
+    """Yields another address of the server, at which replies overtake reports that were queued before them."""
 
     def accept():
         with contextlib.suppress(OSError):
@@ -195,7 +196,7 @@ def overtaken(server):
 @needs_gcc
 @needs_ip
 def test_bus_off_that_replies_overtake(tmp_path):
-    """the restart counts belong to the state that is shown, even if replies overtake reports"""
+    """the restart counts match the state that is shown, even if replies overtake reports"""
     writer = compiled("send_one", str(tmp_path))
     with bus(*FAST, ATTACK) as server, overtaken(server) as late:
         assert state_of(late) == ("ERROR-ACTIVE", "0", "0")
@@ -245,7 +246,7 @@ def test_bit_rates_of_each_bus():
 @needs_gcc
 @needs_ip
 def test_monitor(tmp_path):
-    """`ip monitor link` reports when the carrier is lost and when it comes back"""
+    """`ip monitor link` reports that the carrier is lost, and that it is back"""
     writer = compiled("send_one", str(tmp_path))
     with bus(*FAST, ATTACK) as server, started(server, IP, "monitor", "link") as monitor:
         assert come_true(lambda: keepers(server))
@@ -271,10 +272,11 @@ def test_monitor(tmp_path):
 def test_down_and_up(tmp_path):
     """an interface that is down sends nothing, acknowledges nothing, and loses its queued frames"""
     writer = compiled("send_one", str(tmp_path))
-    # The bus has a bit rate, because otherwise repeats of an unacknowledged frame would fill the record in seconds.
+    # The bus has a bit rate. Without a bit rate the repeats of an unacknowledged frame would fill the record in
+    # seconds.
     with bus("--ack", "peers", "can0,can1") as server, contextlib.closing(plain(server, "can1")) as other:
         passes(server, IP, "link", "set", "can1", "down")
-        # No node acknowledges the frame of can0, so it stays in the queue.
+        # No node acknowledges the frame from can0, so it stays in the queue.
         passes(server, writer, "can0")
         comes_to(server, "ERROR-PASSIVE")
         shown = passes(server, IP, "-details", "link", "show", "can1")
@@ -296,7 +298,7 @@ def test_down_and_up(tmp_path):
 
 @needs_ip
 def test_down_by_others():
-    """an interface that another client of the server takes down is shown as down, and netlink can set it up"""
+    """an interface that another client of the server sets down is shown as down, and netlink can set it up"""
     with bus(*FAST, "can0,can1") as server, contextlib.closing(plain(server, "can0")) as client:
         assert state_of(server)[0] == "ERROR-ACTIVE"
         assert client.answer("< down >") == "< ok >"
@@ -310,7 +312,7 @@ def test_down_by_others():
 
 @needs_ip
 def test_dump_of_many():
-    """listing 256 interfaces is fast, starts no process and uses no session"""
+    """listing 256 interfaces is fast, starts no process, and needs no session"""
     names = [[f"b{number}x{one}" for one in range(16)] for number in range(16)]
     with bus(*FAST, *(",".join(names_of_bus) for names_of_bus in names)) as server:
         shown = passes(server, IP, "-details", "-o", "link", "show")
@@ -324,7 +326,7 @@ def test_dump_of_many():
 
 @needs_ip
 def test_sessions():
-    """all requests share one session of the server, even a hundred of them"""
+    """all requests share one session of the server, even if there are a hundred"""
     with bus(*FAST, "can0,can1") as server:
         script = "for i in $(seq 100); do ip link show can0; done | grep -c link/can"
         assert passes(server, "sh", "-c", script, env=environment(server, PATH="/usr/sbin:/usr/bin:/bin")) == "100\n"
@@ -333,7 +335,7 @@ def test_sessions():
 
 @needs_ip
 def test_full():
-    """an interface is found even if the server has no free session; its state is then missing, and standard error says
+    """an interface is found even if the server has no free session; its state is then unknown, and standard error says
     why"""
     with bus(*FAST, "can0,can1") as server:
         clients = [plain(server, "can0") for _ in range(63)]
@@ -429,7 +431,7 @@ def test_qt():
 @needs_gcc
 @needs_ip
 def test_virtual(tmp_path):
-    """in virtual time restart-ms takes exactly its time, so a minute passes at once"""
+    """in virtual time restart-ms takes exactly the requested time, and a minute passes at once"""
     writer = compiled("send_one", str(tmp_path))
     script = f"""
 export PATH=/usr/sbin:$PATH CANBUSD_ADDRESS={tmp_path}/bus

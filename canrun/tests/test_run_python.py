@@ -28,12 +28,12 @@ def all_of(receiver, count):
 
 
 def python(server, text, *words, **how):
-    """Runs a Python program by canbusd-run; returns its output."""
+    """Runs a Python program with canbusd-run. Returns the output of the program."""
     return passes(server, PYTHON, "-c", START + textwrap.dedent(text), *words, **how)
 
 
 def test_send_and_receive(server):
-    """identifiers, lengths and remote frames arrive, and frames of other nodes count as received"""
+    """identifiers, lengths and remote frames arrive unchanged, and frames from other nodes are marked as received"""
     python(
         server,
         """
@@ -153,8 +153,8 @@ def test_asyncio(server):
 
 
 def test_periodic(server):
-    """the broadcast manager sends cyclic frames: with several periods, modified, stopped, restarted, and several frames
-    in turn"""
+    """the broadcast manager sends cyclic frames with several periods; tasks can be modified, stopped and restarted, and
+    can send several frames in turn"""
     python(
         server,
         """
@@ -187,7 +187,7 @@ def test_periodic(server):
 
 
 def test_errors():
-    """a program gets error message frames and bus off, and a send then raises an exception"""
+    """a program receives error message frames and notices bus off; a send then raises an exception"""
     with serving("--pace", "0", f"can0,can1@{ROOT}/examples/bus_off_attack.script") as server:
         python(
             server,
@@ -209,7 +209,7 @@ def test_errors():
 
 
 def test_no_interface(server):
-    """an unknown interface name is an error at once"""
+    """an unknown interface name raises an error at once"""
     python(
         server,
         """

@@ -1,6 +1,6 @@
 """canbusd-run --static: programs that load no library. A statically linked program gets the kernel's answers to the
-cases of kernel/ and links/. The exceptions are the known differences from the kernel, and static.txt. Further tests run
-programs of Go and musl, signals and forks."""
+cases in kernel/ and links/. The exceptions are the known differences from the kernel, and the cases in static.txt.
+Other tests run Go and musl programs, and test signals and forks."""
 
 import concurrent.futures
 import os
@@ -37,8 +37,8 @@ def known_differences():
 
 
 def unlike(cases, folder, answer):
-    """Returns the cases of a folder whose answer is neither the kernel's nor a known difference. Each case of
-    static.txt runs with a separate server, because what it leaves would disturb other cases."""
+    """Returns the cases in a folder whose answer is neither the kernel's nor a known difference. Each case of
+    static.txt runs on a separate server, because it would disturb other cases."""
     alone = known_differences()[1]
     wanted = {**answers(file_of("answers.txt", folder)), **differences(folder)[1], **alone}
     others = [case for case in cases if case not in alone]
@@ -63,7 +63,7 @@ def test_answers(tmp_path, folder):
 
 
 def test_differences():
-    """each difference is documented in LIMITS, and still occurs"""
+    """every difference is documented in LIMITS, and still occurs"""
     limits = words_of(file_of("../../../canbusd-run.1").split(".SH LIMITS")[1].split(".SH ENVIRONMENT")[0])
     lines, cases = known_differences()
     kernel = {**answers(file_of("answers.txt")), **answers(file_of("answers.txt", LINKS))}
@@ -77,7 +77,7 @@ SAME = ("calls", "options", "filters", "own", "fd", "epoll", "threads", "bcm", "
 
 @pytest.mark.parametrize("name", SAME)
 def test_programs(tmp_path, name):
-    """statically linked programs give the same results as programs with the library"""
+    """statically linked programs have the same results as programs with the library"""
     program = compiled(name, str(tmp_path), "-static")
     with serving(*FAST, "can0,can1", "vcan0") as server:
         passes(server, program, options=STATIC, patience=200)
@@ -95,7 +95,7 @@ def test_signals(tmp_path, kind):
 
 @pytest.mark.skipif(not shutil.which("go"), reason="no go: apt-get install golang-go")
 def test_go(tmp_path):
-    """a Go program finds its interface by net.InterfaceByName, and answers a thousand frames"""
+    """a Go program finds its interface with net.InterfaceByName, and answers a thousand frames"""
     node = str(tmp_path / "node")
     subprocess.run(["go", "build", "-o", node, os.path.join(ROOT, "examples", "go", "node.go")], check=True)
     with serving(*FAST, "can0,can1") as server:
@@ -125,7 +125,7 @@ def test_musl(tmp_path):
 
 
 def test_process(tmp_path):
-    """the program keeps its process number and its status, and the supervisor process ends"""
+    """the program keeps its process ID and its exit status, and the supervisor process ends"""
     program = compiled("send_one", str(tmp_path), "-static")
     with serving(*FAST, "can0,can1") as server:
         shown = run(server, "sh", "-c", f"echo $$; exec {program} none", options=STATIC)
@@ -142,7 +142,7 @@ def supervisors(server):
 
 
 def test_refused(tmp_path):
-    """what --static does not support is refused, and a line says what it is"""
+    """options and sockets that --static does not support are refused, and a line names the reason"""
     program = compiled("send_one", str(tmp_path), "-static")
     with serving(*FAST, "can0,can1") as server:
         note = run(server, program, "can0").stderr

@@ -1,4 +1,4 @@
-"""canbusd-run: the tools of can-utils, tested by their output in can-utils' own formats."""
+"""canbusd-run: the tools of can-utils. Their output is compared with can-utils' own formats."""
 
 import contextlib
 import re
@@ -34,7 +34,7 @@ def send(server, *frames, name="can0"):
 
 
 def ended(child):
-    """Returns the output of a program, which it ends by Ctrl-C."""
+    """Ends a program with Ctrl-C, and returns its output."""
     child.send_signal(signal.SIGINT)
     return child.communicate(timeout=20)[0]
 
@@ -57,7 +57,7 @@ def test_cansend():
 
 
 def test_cansend_refused():
-    """a wrong interface name, a full queue and bus off give the same error messages as the kernel"""
+    """the error messages for a wrong interface name, a full queue and bus off are those of the kernel"""
     with serving("--pace", "60000", "can0,can1@" + f"{ROOT}/examples/bus_off_attack.script") as server:
         wrong = run(server, "cansend", "can7", "123#")
         assert wrong.returncode == 1 and "No such device" in wrong.stderr, wrong
@@ -99,7 +99,7 @@ def test_candump(server):
 
 
 def test_candump_stamps():
-    """each kind of timestamp is the same as in the server's log"""
+    """every kind of timestamp is the same as in the server's log"""
     with serving(*FAST, "can0,can1") as server:
         with listening(server, "candump", "-L", "-n", "2", "can1") as first, listening(
             server, "candump", "-ta", "-n", "2", "can1"
@@ -132,7 +132,7 @@ def test_candump_stamps():
     ],
 )
 def test_candump_filters(server, words, expected):
-    """only matching frames pass, up to a last frame that always passes; there may be 200 filters"""
+    """candump shows only matching frames, and a last frame that always matches; there may be 200 filters"""
     last = "" if "~" in words else ",1AA:7FF"
     with listening(server, "candump", "-L", words + last) as dump:
         send(server, "123#", "124#", "00000123#", "7FF#", "1AA#")
@@ -145,7 +145,7 @@ def test_candump_filters(server, words, expected):
 
 
 def test_candump_any(server):
-    """frames of two buses arrive, including the loopback at the interface that sends"""
+    """candump on all interfaces shows the frames of two buses, including the loopback on the sending interface"""
     with listening(server, "candump", "-L", "any") as dump:
         send(server, "123#01")
         send(server, "124#02", name="vcan0")
@@ -175,7 +175,7 @@ def test_candump_log(server, tmp_path):
 
 
 def test_cangen(server, tmp_path):
-    """10,000 frames at full speed all arrive, each once and in order"""
+    """10,000 frames at full speed all arrive, once each and in order"""
     frames = 10_000
     with open(tmp_path / "lines", "w+", encoding="utf-8") as lines:
         with listening(server, "candump", "-L", "-n", str(frames), "can1", stdout=lines) as dump:
@@ -189,7 +189,7 @@ def test_cangen(server, tmp_path):
 
 
 def test_cangen_kinds(server):
-    """cangen generates FD frames, 29-bit identifiers and remote frames, and with -i continues if the queue is full"""
+    """cangen generates FD frames, 29-bit identifiers and remote frames; with -i it continues when the queue is full"""
     with listening(server, "candump", "-L", "-n", "30", "can1") as dump:
         passes(server, "cangen", "can0", "-g", "1", "-n", "10", "-f")
         passes(server, "cangen", "can0", "-g", "1", "-n", "10", "-e")
@@ -205,7 +205,7 @@ def test_cangen_kinds(server):
 
 
 def test_canplayer(server, tmp_path):
-    """canplayer replays a log, and with --wait also if the queue is short"""
+    """canplayer replays a log; with --wait it does so even if the queue is short"""
     log = tmp_path / "run.log"
     lines = [f"({number / 1000:.6f}) can0 {number:03X}#{number:04X}" for number in range(1, 101)]
     log.write_text("\n".join(lines) + "\n", encoding="utf-8")
@@ -221,7 +221,7 @@ def test_canplayer(server, tmp_path):
 
 
 def test_cansequence(server):
-    """one cansequence sends a counter, and the other finds no gap"""
+    """one cansequence sends a counter, and another one finds no gap in it"""
     with listening(server, "cansequence", "-r", "-v", "can1") as reader:
         passes(server, "cansequence", "can0", "--loop=300", "-p")
         send(server, "002#FF")  # The next number is 300 & 255.
@@ -274,7 +274,7 @@ def test_cansniffer(server):
 
 
 def test_canlogserver(server):
-    """a client that connects to the port of canlogserver gets the log"""
+    """a client that connects to canlogserver's port receives the log"""
     with started(server, "canlogserver", "-p", "28700", "can1") as logs, contextlib.ExitStack() as ending:
         for _ in turns("it listens"):
             with contextlib.suppress(ConnectionRefusedError):
@@ -290,8 +290,7 @@ def test_canlogserver(server):
 
 
 def test_isotpdump(server):
-    """isotpdump shows the protocol's frames; it also works with a preloaded library that makes it write each line at
-    once"""
+    """isotpdump shows the protocol's frames, also with a preloaded library that makes it write every line at once"""
     with listening(server, "stdbuf", "-oL", "isotpdump", "-s", "123", "-d", "321", "-c", "can1") as dump:
         send(server, "123#021122", "123#100A112233445566")
         lines = [dump.stdout.readline() for _ in range(2)]
@@ -322,8 +321,8 @@ def test_isotp(server, sending, receiving, length):
 
 @needs("isotpsend", "isotprecv")
 def test_isotp_bus_off(tmp_path):
-    """a message whose frames are lost fails with ECOMM 2 seconds after the last frame, although the server accepted all
-    frames"""
+    """an ISO-TP message whose frames are lost fails with ECOMM 2 seconds after the last frame, although the server
+    accepted all frames"""
     script = tmp_path / "off.script"
     script.write_text("next 32 from ecu skip 3 global bit\n", encoding="utf-8")
     with serving("--pace", "1", f"ecu,tester@{script}") as server:
@@ -337,8 +336,8 @@ def test_isotp_bus_off(tmp_path):
 @pytest.mark.quiet
 @pytest.mark.parametrize("is_busy", [False, True], ids=["idle", "busy"])
 def test_isotp_stmin(is_busy):
-    """the pause that a receiver requests lasts from the end of one frame on the bus to the start of the next, even if
-    other nodes send"""
+    """the requested pause between two frames of a message lasts from the end of the first on the bus to the start of
+    the second, even if other nodes send"""
     with serving("--bitrate", "50000", "ecu,tester,other") as server, contextlib.ExitStack() as ending:
         receiver = ending.enter_context(
             listening(server, "isotprecv", "-s", "321", "-d", "123", "-m", "0A", "tester", stdout=subprocess.PIPE)
@@ -365,8 +364,8 @@ def test_isotp_stmin(is_busy):
 
 
 def test_canplayer_log_with_faults(tmp_path):
-    """canplayer replays a server's own log with error message frames to its end: the frames are accepted, and a note
-    says that they are not sent"""
+    """canplayer replays a server's own log with error message frames to its end: writes of these frames succeed, and a
+    note says that they are not sent"""
     log = "(0.000001) can0 123#01\n(0.000002) can0 20000080#0000000000000000\n(0.000003) can0 124#02\n"
     (tmp_path / "faults.log").write_text(log, encoding="utf-8")
     with serving(*FAST, "can0,can1") as server:
@@ -378,7 +377,7 @@ def test_canplayer_log_with_faults(tmp_path):
         assert logged(server, "can0") == ["can0 123#01", "can0 124#02"]
 
 
-#: How often a test runs that would fail if a program hung. The slow variant runs as often as --cases says.
+#: How often to run a test that would fail if a program hung. The slow variant runs as often as --cases says.
 few_and_many = pytest.mark.parametrize("runs", [10, pytest.param(0, marks=pytest.mark.slow)], ids=["few", "many"])
 
 
@@ -386,7 +385,7 @@ few_and_many = pytest.mark.parametrize("runs", [10, pytest.param(0, marks=pytest
 @needs("cangen")
 @pytest.mark.parametrize("places", ["1", "10"])
 def test_wait_never_hangs(places, runs, cases):
-    """with --wait, sends of 1,000 frames that find the queue full again and again always end"""
+    """with --wait a program that sends 1,000 frames always finishes, although it often finds the queue full"""
     words = ["cangen", "-g", "0", "-n", "1000", "can0"]
     with serving("--pace", "0", "--txqueue", places, "--record", "none", "can0,can1") as server:
         for _ in range(runs or cases):
@@ -396,7 +395,7 @@ def test_wait_never_hangs(places, runs, cases):
 
 
 def refused_sends(server):
-    """Returns how many sends a full queue has refused."""
+    """Returns how many sends were refused because a queue was full."""
     client = plain(server, "can0")
     for text in iter(lambda: client.answer("< stats >"), ""):
         if text.startswith("< stats "):
@@ -442,7 +441,7 @@ def test_waits_are_not_refused(options):
 @few_and_many
 @needs("cangen", "isotpsend", "isotprecv")
 def test_isotp_full_queue(runs, cases):
-    """without --wait, sending an ISO-TP message always ends, even if other programs keep the queue full: it succeeds or
+    """without --wait, sending an ISO-TP message never hangs, even if other programs keep the queue full: it succeeds or
     fails"""
     with serving(
         "--pace", "0", "--txqueue", "1", "--record", "none", "can0,can1"
@@ -479,7 +478,7 @@ def test_isotpperf(server):
 
 @needs("bcmserver")
 def test_bcmserver(server, fixed_ports):
-    """bcmserver accepts commands at its port: for a cyclic frame, and for a content filter"""
+    """bcmserver accepts commands for a cyclic frame and for a content filter at its port"""
     with started(server, "bcmserver") as running, contextlib.ExitStack() as ending:
         for _ in turns("it listens"):
             if running.poll() is not None:

@@ -1,5 +1,5 @@
-"""Virtual time, `canbusd-run --virtual`: exact waits in unchanged programs, identical output in each run, the messages,
-and what a run leaves."""
+"""Virtual time, `canbusd-run --virtual`: exact waits in unchanged programs, identical output in every run, the
+messages, and the files and processes that a run leaves."""
 
 import contextlib
 import os
@@ -22,7 +22,7 @@ __all__ = ["nodes"]
 
 @needs_gcc
 def test_waits(nodes):
-    """each kind of wait takes exactly as long as requested, and returns the expected result"""
+    """every kind of wait takes exactly as long as requested, and returns the expected result"""
     ended = virtual(nodes / "waits")
     assert (ended.returncode, ended.stderr) == (0, ""), ended
     assert ended.stdout.splitlines() == [
@@ -38,7 +38,7 @@ def test_waits(nodes):
 
 @needs_tools
 def test_example(tmp_path):
-    """`examples/scenario.sh` prints ten frames, one each second and the same in each run, and leaves no file"""
+    """`examples/scenario.sh` prints ten frames, one each second, identical in every run, and leaves no file"""
     env = {**os.environ, "CANBUSD": program(), "CANBUSD_RUN": command(), "TMPDIR": str(tmp_path)}
     runs = [virtual(os.path.join(ROOT, "examples", "scenario.sh"), env=env) for _ in range(2)]
     assert [(run.returncode, run.stderr) for run in runs] == [(0, "")] * 2
@@ -60,8 +60,8 @@ def test_moments(tmp_path, nodes):
 
 
 def worst_case_bench(rounds):
-    """Returns the lines of a bench in which three nodes send like the nodes of the case `worst_case`, from the same
-    second on."""
+    """Returns the lines of a bench in which three nodes send as the nodes of the case `worst_case` do, starting at the
+    same second."""
     sends = [(k * 540, 1, "001 7 55 55 55 55 55 55 05") for k in range(7 * rounds)]
     for node, text in ((2, "002 7 55 55 55 55 55 55 03"), (3, "003 7 55 55 55 55 55 55 7C")):
         sends += [(k * 756, node, text) for k in range(5 * rounds)]
@@ -94,13 +94,13 @@ def test_isotp(tmp_path, nodes):
 
 
 def turns(ended):
-    """Returns how many turns the threads of a run took. The run reports this with CANBUSD_RUN_DEBUG=1."""
+    """Returns how many scheduling turns the threads of a run took. The run reports this with CANBUSD_RUN_DEBUG=1."""
     return int(re.search(r"(\d+) turns", ended.stderr).group(1))
 
 
 def sockets(folder, nodes, script):
     """Starts a server, runs a shell script, and stops the server. Returns the script's output, the number of frames on
-    can0, and the number of turns."""
+    can0, and the number of scheduling turns."""
     settings = {"RUN": command(), "CANBUSD": program(), "NODES": str(nodes), "CASES": CASES, "OUT": str(folder)}
     script = f'. "$CASES/server.sh"; start can0,can1; {script}; stop; cat "$OUT/errors"'
     ended = virtual("bash", "-c", script, env={**os.environ, **settings, "CANBUSD_RUN_DEBUG": "1"})
@@ -111,7 +111,7 @@ def sockets(folder, nodes, script):
 
 @needs_gcc
 def test_full_queue(tmp_path, nodes):
-    """while a program does not read, it loses all but the first frames; after it has read, it receives later frames"""
+    """a program that does not read loses all but the first frames; after it has read, it receives later frames"""
     script = 'aside "$NODES/full" can1 8 9>&-; node=$!; inside "$NODES/cyclic" can0 100 1000 12000; wait $node'
     text, frames, _ = sockets(tmp_path / "run", nodes, script)
     parts = [[int(number) for number in part.split("-")] for part in text.split()]
@@ -122,15 +122,15 @@ def test_full_queue(tmp_path, nodes):
 
 @needs_gcc
 def test_turns_of_many_sockets(tmp_path, nodes):
-    """a process with many sockets takes the same number of turns in each run, although its sockets have other names"""
+    """the number of scheduling turns of a process with many sockets is the same in every run, although the socket names
+    differ"""
     runs = [sockets(tmp_path / name, nodes, 'inside "$NODES/many" can0 48 9>&-') for name in "abc"]
     assert len(set(runs)) == 1, runs
 
 
 @needs_gcc
 def test_turns_of_the_late(nodes):
-    """only threads take turns: two for each child process, one of the child and one of its parent, however late the
-    child begins"""
+    """every child process takes two scheduling turns, one of the child and one of its parent, however late it begins"""
     env = {**os.environ, "CANBUSD_RUN_DEBUG": "1"}
     runs = [virtual(nodes / "late", ms, "4", env=env) for ms in ("0", "100")]
     assert [(run.returncode, turns(run)) for run in runs] == [(0, 1 + 2 * 4)] * 2, runs
@@ -138,7 +138,7 @@ def test_turns_of_the_late(nodes):
 
 @needs_gcc
 def test_turns_of_a_sender(tmp_path, nodes):
-    """a frame of a sender that does not read takes four turns: two of the sender, and two of the server"""
+    """a frame from a sender that does not read takes four scheduling turns: two of the sender, two of the server"""
     few, many = (
         sockets(tmp_path / str(count), nodes, f'inside "$NODES/lent" turns {count}')[1:] for count in (1000, 3000)
     )
@@ -147,8 +147,8 @@ def test_turns_of_a_sender(tmp_path, nodes):
 
 @needs_gcc
 def test_lent_sessions(tmp_path, nodes):
-    """programs that only send get the same results and recognise their own frames, even while descriptors and processes
-    are opened, closed, started and ended"""
+    """programs that only send get the same results and recognise their own frames, even while descriptors are opened
+    and closed and processes start and end"""
     plain = sockets(tmp_path / "plain", nodes, 'inside "$NODES/lent" plain')
     assert plain[0] == 3 * (10 * "0 " + 30 * "105 " + "\n") and plain[1] == 30
     assert sockets(tmp_path / "filter", nodes, 'inside "$NODES/lent" filter')[:2] == plain[:2]
@@ -166,7 +166,7 @@ def test_lent_sessions(tmp_path, nodes):
 
 
 def test_shell():
-    """a script sees the dates of virtual time, and the run ends with the status of the program"""
+    """a script sees dates in virtual time, and the run ends with the program's status"""
     ended = virtual("sh", "-c", "date +%s; sleep 3600; (sleep 1; date +%s) & wait; date +%s; exit 7")
     assert (ended.returncode, ended.stderr) == (7, "")
     assert ended.stdout.split() == ["1767225600", "1767229201", "1767229201"]
@@ -175,7 +175,7 @@ def test_shell():
 
 
 def test_until():
-    """with --until the run ends at this virtual time by SIGTERM, with a shell's status for that"""
+    """with --until the run ends at this virtual time by SIGTERM, with the status 128 + SIGTERM, as in a shell"""
     ended = virtual("sleep", "1000", options=("--until", "10"))
     assert ended.returncode == 128 + signal.SIGTERM and "--until" in ended.stderr
 
@@ -191,8 +191,8 @@ sleep $0
 
 @pytest.mark.parametrize("seconds, options", [("3.05", ()), ("1000", ("--until", "3.05"))])
 def test_what_is_left(tmp_path, seconds, options):
-    """programs that are left at the end of a run get SIGTERM, and then two more seconds of virtual time, however busy
-    the machine is"""
+    """programs that are left at the end of a run get SIGTERM, and then two more seconds of virtual time, even on a busy
+    machine"""
     for number in range(3):
         folder = tmp_path / str(number)
         folder.mkdir()
@@ -210,7 +210,7 @@ def test_all_wait(tmp_path):
 
 
 def test_stopped():
-    """a stopped program does not delay other programs, and continues where it was after SIGCONT"""
+    """a stopped program does not delay other programs; after SIGCONT it continues"""
     for text, seconds in (("sleep 5 & sleep 1", 11), ("sleep 5 &", 15)):
         script = f"{text}; kill -STOP $!".replace("&;", "&") + "; sleep 10; kill -CONT $!; wait; date +%s"
         ended = virtual("sh", "-c", script)
@@ -235,8 +235,8 @@ def test_lock_of_a_file(tmp_path):
 
 @needs_gcc
 def test_unseen(nodes):
-    """a wait by the real clock ends the run, and so does a thread that spins; SO_SNDTIMEO works, and io_uring is
-    refused with one line"""
+    """a wait by the real clock and a thread that spins end the run; SO_SNDTIMEO works, and io_uring is refused with one
+    line"""
     for word, number in (("nanosleep", 35), ("futex", 202)):
         ended = virtual(nodes / "unseen", word)
         fails(ended, rf"unseen \(process \d+\) waits by the real clock, in system call {number},")
@@ -261,8 +261,8 @@ def static_unseen(folder):
 
 @needs_gcc
 def test_calls_of_go(tmp_path):
-    """a program that makes its own system calls, as Go programs do, is reported with the reason, and a wait of it ends
-    the run"""
+    """a program that makes its own system calls, as Go programs do, is reported with the reason, and the run ends when
+    it waits"""
     ended = virtual(static_unseen(tmp_path), "futex")
     fails(ended, r"unseen \(process \d+\) is linked statically, so it sees the real time")
     fails(ended, r"unseen \(process \d+\) waits by the real clock, in system call 202, .* it is linked statically")
@@ -271,7 +271,7 @@ def test_calls_of_go(tmp_path):
 @needs_gcc
 @pytest.mark.parametrize("is_static", [False, True])
 def test_io_uring_by_instruction(tmp_path, nodes, is_static):
-    """a wait for a ring that was set up by direct system calls ends the run"""
+    """the run ends if a program waits for an io_uring that was set up with direct system calls"""
     ended = virtual(static_unseen(tmp_path) if is_static else nodes / "unseen", "io_uring_enter")
     if ended.returncode == 77:
         pytest.skip("no io_uring")
@@ -291,7 +291,7 @@ def test_server_outside():
     assert virtual(sys.executable, "-c", inside).returncode == 0
 
 
-#: Connects to programs outside the run: by python-can without an address, in a child process, and to a Unix path.
+#: Connects to programs outside the run: with python-can without an address, in a child process, and at a Unix path.
 OUTSIDE = r"""
 import os, socket, subprocess, sys
 import can
@@ -334,8 +334,8 @@ def test_odd():
     ],
 )
 def test_server_outside_of_pytest(tmp_path, name, line):
-    """the line about such a connection names the test, and is on the run's standard error, although pytest captures the
-    tests' output"""
+    """the line about a connection to a program outside the run names the test; it is on the run's standard error,
+    although pytest captures the output of tests"""
     (tmp_path / "test_it.py").write_text(OUTSIDE, encoding="utf-8")
     path = str(tmp_path / "outside")
     with socket.create_server(("127.0.0.1", 0)) as server, socket.socket(socket.AF_UNIX) as other:
@@ -359,7 +359,7 @@ def test_server_outside_of_pytest(tmp_path, name, line):
 
 @needs_gcc
 def test_static(tmp_path):
-    """a program that does not load the library is reported with the reason, and a wait of it ends the run"""
+    """a program that does not load the library is reported with the reason, and the run ends when it waits"""
     (tmp_path / "static.c").write_text(
         "#include <unistd.h>\nint main(int n, char **w) { return w && n > 1 && sleep(2); }\n"
     )
@@ -397,7 +397,7 @@ int execv(const char *path, char *const words[]) {
 
 @needs_gcc
 def test_slow_start(tmp_path):
-    """a program that is executed late, as on a busy machine, does not count as a program without the library"""
+    """a program that starts late, as on a busy machine, does not count as a program without the library"""
     (tmp_path / "slow.c").write_text(SLOW_START)
     library = str(tmp_path / "slow.so")
     subprocess.run(["gcc", *FLAGS, "-shared", "-fPIC", "-o", library, str(tmp_path / "slow.c")], check=True)
@@ -416,7 +416,7 @@ print(f"{time.monotonic() - begun:.3f}", ready and sys.stdin.read())
 
 @needs_gcc
 def test_slow_end(nodes):
-    """no virtual time passes while a program that has ended still has threads that must end, on a busy processor"""
+    """on a busy processor, no virtual time passes while threads of an ended program have not ended yet"""
     processor = {min(os.sched_getaffinity(0))}
     burners = [subprocess.Popen(["sh", "-c", "while :; do :; done"]) for _ in range(2)]
     try:
@@ -444,7 +444,7 @@ def test_slow_end(nodes):
     ],
 )
 def test_wrong_options(words, fault):
-    """wrong options end canbusd-run with status 125 and one line"""
+    """after wrong options canbusd-run prints one line and ends with status 125"""
     ended = subprocess.run([command(), *words], capture_output=True, text=True, check=False)
     assert ended.returncode == 125 and fault in ended.stderr and ended.stderr.count("\n") == 1
 
@@ -459,7 +459,7 @@ def runs(pid):
 
 
 def of_run(mark):
-    """Returns the running processes that have this text in their environment. All processes of a run inherit it."""
+    """Returns the running processes that have this string in their environment. All processes of a run inherit it."""
     found = []
     for pid in filter(str.isdigit, os.listdir("/proc")):
         with contextlib.suppress(OSError):
@@ -530,8 +530,8 @@ def test_no_rate():
 
 @needs_can
 def test_pytest(tmp_path):
-    """pytest restarts itself in virtual time; a failed test prints the command that repeats it, and a test that
-    requires virtual time fails without it"""
+    """pytest restarts itself in virtual time; a failed test prints the command that repeats it; without virtual time, a
+    test that requires it fails"""
     (tmp_path / "test_it.py").write_text(PYTEST, encoding="utf-8")
     line = [sys.executable, "-m", "pytest", "-p", "canbusd.pytest_plugin", "-q", "test_it.py"]
     env = {**os.environ, "CANBUSD_RUN": command(), "CANBUSD": program(), "PYTHONPATH": os.path.join(ROOT, "python/src")}

@@ -1,4 +1,4 @@
-"""Virtual time: the messages about things that can't work, and no messages about things that can."""
+"""Virtual time: messages about programs that can't work, and no messages about programs that can."""
 
 import os
 import re
@@ -24,7 +24,7 @@ def test_no_server():
     assert "canbusd-run --virtual sh -c 'canbusd serve --bitrate 500000 can0 & sleep 1; canbusd-run candump ..'" in said
 
 
-#: A program with an ELF note of Go in second place, after another note.
+#: A program with two ELF notes, of which the second is a note of Go.
 NOTED = """
 #include <stdio.h>
 #define NOTE(name, owner) \\
@@ -44,7 +44,7 @@ int main(void) {
 
 @needs_gcc
 def test_go_with_c(tmp_path):
-    """a Go program that loads libraries ends the run at once, and not only when no program can continue"""
+    """a Go program that loads libraries ends the run at once, even while other programs can continue"""
     (tmp_path / "noted.c").write_text(NOTED, encoding="utf-8")
     path = str(tmp_path / "noted")
     subprocess.run(["gcc", *FLAGS, "-Wno-unused-macros", "-o", path, path + ".c"], check=True)
@@ -71,8 +71,8 @@ def test_short_ones(tmp_path):
 @needs_gcc
 @pytest.mark.parametrize("does", ["for (volatile long i = 0; i < 3000000000; i++) {}", "getchar();"])
 def test_long_ones(tmp_path, does):
-    """a program without the library that runs for long is reported, because it sees the real time; also if it only
-    waits for input from outside the run"""
+    """a program without the library that runs for a long time is reported, because it sees the real time, even if it
+    only waits for input from outside the run"""
     source = str(tmp_path / "long.c")
     with open(source, "w", encoding="utf-8") as file:
         file.write(f"#include <stdio.h>\nint main(void) {{ {does} return 0; }}\n")
@@ -94,7 +94,7 @@ def test_valgrind():
 
 @needs("parallel")
 def test_parallel(tmp_path):
-    """GNU parallel works, although it first tests the maximum length of commands with a changed environment"""
+    """GNU parallel works, although it first determines the maximum length of commands with a changed environment"""
     env = {**os.environ, "HOME": str(tmp_path), "PARALLEL_HOME": str(tmp_path)}
     begun = time.monotonic()
     ended = virtual("parallel", "-j1", "sleep 20; echo", ":::", "a", "b", env=env)
@@ -104,6 +104,6 @@ def test_parallel(tmp_path):
 
 @pytest.mark.parametrize("word", ["--seed", "--jitter"])
 def test_help(word):
-    """the help says how large the jitter has to be"""
+    """the help says how large the jitter must be"""
     shown = subprocess.run([command(), "--help"], stdout=subprocess.PIPE, text=True, check=True).stdout
     assert word in shown and "to exceed the time between the events" in shown

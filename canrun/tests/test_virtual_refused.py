@@ -1,5 +1,5 @@
-"""A program that can't be in virtual time ends the run at once, with status 125 and a line that names program, thread
-and reason."""
+"""A program that can't be in virtual time ends the run at once, with status 125 and a line that names the program, the
+thread and the reason."""
 
 import os
 import shutil
@@ -14,7 +14,7 @@ from running import command, needs_gcc
 from virtual_runs import fails, virtual
 
 needs_root = pytest.mark.skipif(os.geteuid() != 0, reason="only root can run as another user")
-#: The words that run a program as a user who is not the run's user and is in no group, like nobody.
+#: The words that run a program as a user like nobody, who is not the run's user and is in no group.
 OTHER = ["setpriv", "--reuid=65534", "--regid=65534", "--clear-groups"]
 RIGHTS = r"\w+ \(process \d+\) has other rights than the run"
 
@@ -37,7 +37,7 @@ def test_another_user():
 
 @needs_root
 def test_same_program_goes_on():
-    """a program that gives up its rights, but executes no other program, stays in the run"""
+    """a program that gives up its rights but executes no other program stays in the run"""
     text = "import os, time; os.setuid(65534); time.sleep(60); print(time.time())"
     ended = virtual(sys.executable, "-c", text)
     assert (ended.returncode, ended.stdout) == (0, "1767225660.0\n"), ended
@@ -55,7 +55,7 @@ def make_open_folder():
 @needs_root
 @pytest.mark.skipif(not shutil.which("setcap"), reason="no setcap")
 def test_own_rights(open_folder):
-    """a run of another user than root ends if a program is setuid or has capabilities"""
+    """a run that was started by a user other than root ends if a program is setuid or has capabilities"""
     for name, words in (("setuid", ["chmod", "4755"]), ("setcap", ["setcap", "cap_net_raw+ep"])):
         path = shutil.copy(shutil.which("sleep"), os.path.join(open_folder, name))
         subprocess.run([*words, path], check=True)
@@ -91,8 +91,8 @@ def test_datagrams():
         "-c",
         f"{SENDS}; s.sendto(b'x', ('192.0.2.1', 53)); time.sleep(60)",
     )
-    # These peers do not end the run: a missing one, which the kernel reports; one to which a socket is only connected,
-    # as for a route lookup; a multicast group; and one within the run.
+    # Datagrams to these peers do not end the run: a missing peer, which the kernel reports; a peer to which a socket is
+    # only connected, as for a route lookup; a multicast group; and a peer in the run.
     for text in (
         "s.sendto(b'x', ('127.0.0.1', 9))",
         "s.connect(('127.0.0.1', 9))",

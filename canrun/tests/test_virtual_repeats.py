@@ -14,7 +14,7 @@ from virtual_runs import case, needs_can, needs_tools, nodes, virtual
 
 __all__ = ["nodes"]
 
-#: How often the test suite runs each case.
+#: How often the test suite runs every case.
 RUNS = 5
 SEED = ("--seed", "5", "--jitter", "300")
 
@@ -43,7 +43,7 @@ def all_same(name, kind, folder, nodes, runs, options=()):
 @pytest.mark.parametrize("name, kind", SAME)
 @pytest.mark.parametrize("runs", [RUNS, pytest.param(100, marks=pytest.mark.slow)])
 def test_same_bytes(tmp_path, nodes, name, kind, runs):
-    """logs, records and all outputs are identical in each run"""
+    """logs, records and all outputs are identical in every run"""
     all_same(name, kind, tmp_path, nodes, runs)
 
 
@@ -51,7 +51,7 @@ def test_same_bytes(tmp_path, nodes, name, kind, runs):
 @needs_tools
 @pytest.mark.parametrize("name, kind", SAME)
 def test_same_bytes_of_a_seed(tmp_path, nodes, name, kind):
-    """they are also identical in runs with a seed and jitter"""
+    """logs, records and all outputs are identical in two runs with the same seed and jitter"""
     all_same(name, kind, tmp_path, nodes, 2, SEED)
 
 
@@ -61,7 +61,7 @@ def test_same_bytes_of_a_seed(tmp_path, nodes, name, kind):
 @pytest.mark.parametrize("options", [(), SEED])
 @pytest.mark.parametrize("name, kind", SAME)
 def test_same_bytes_beside_others(tmp_path, nodes, name, kind, options):
-    """they are also identical while four other processes use the processors"""
+    """logs, records and all outputs are identical while four other processes use the processors"""
     burners = [subprocess.Popen(["nice", "-n", "19", "sh", "-c", "while :; do :; done"]) for _ in range(4)]
     try:
         all_same(name, kind, tmp_path, nodes, 100, options)
@@ -74,14 +74,14 @@ def test_same_bytes_beside_others(tmp_path, nodes, name, kind, options):
 @needs_gcc
 @needs_tools
 def test_seeds(tmp_path, nodes):
-    """another seed gives a different run, which is identical each time"""
+    """runs with the same seed are identical, and runs with different seeds differ"""
     left = [case("nodes", tmp_path / name, nodes, words, FRAMES="20") for name, words in zip("abc", (SEED, SEED, ()))]
     assert left[0] == left[1] != left[2]
 
 
 @needs_gcc
 def test_race(nodes):
-    """some seeds show a race that the usual order never shows, and they show it again in each run"""
+    """some seeds show a race that the usual order never shows, and they show it again in every run"""
     assert virtual(nodes / "race").stdout == "all are unique\n"
     found = [virtual(nodes / "race", options=("--seed", str(seed), "--jitter", "500")).stdout for seed in range(12)]
     assert 1 <= sum("given out twice" in text for text in found) <= 11, found
@@ -103,7 +103,7 @@ def test_what_is_random(nodes, options):
 
 
 def test_what_is_random_of_a_shell():
-    """the bytes are the run's even if a random device is the standard input of a program"""
+    """random bytes are the same in every run, even if a random device is the standard input of a program"""
     text = "head -c 8 /dev/urandom; head -c 8 </dev/urandom"
     line = [command(), "--virtual", "sh", "-c", text]
     first, second = (subprocess.run(line, stdout=subprocess.PIPE, check=True).stdout for _ in range(2))
@@ -141,14 +141,14 @@ with socket.create_connection(server.getsockname()) as client:
 
 
 def test_writes_to_tcp():
-    """no byte waits for the kernel's TCP timers, which use the real clock"""
+    """no byte is delayed by the kernel's TCP timers, which use the real clock"""
     ended = virtual(sys.executable, "-c", WRITES)
     assert ended.returncode == 0, ended
     assert ended.stdout.split() == [f"{1000 + number * 0.05:.3f}" for number in range(50)]
 
 
 def test_seed_of_a_failed_script():
-    """if a script fails, the run prints the seed that repeats the failure"""
+    """if a script fails, the run prints the seed with which the failure can be repeated"""
     for words, options in ((("--seed", "7"), "--seed 7 --jitter 0"), (("--jitter", "50"), "--seed 0 --jitter 50")):
         ended = virtual("sh", "-c", "sleep 1; exit 3", options=words)
         line = f"canbusd-run: virtual time: at 1.000000 s status 3; {options} repeats it\n"
@@ -156,8 +156,8 @@ def test_seed_of_a_failed_script():
     assert virtual("sh", "-c", "exit 3").stderr == virtual("true", options=SEED).stderr == ""
 
 
-#: Tests that fail with some seeds: their results depend on waits, threads, a server that several tests use, and random
-#: numbers.
+#: Tests that fail with some seeds. Their results depend on waits, on threads, on a server that several tests use, and
+#: on random numbers.
 RACES = """
 import random
 import threading
@@ -210,7 +210,7 @@ def test_shared(shared, number):
 
 
 def reasons(text):
-    """Returns pytest's messages for each failed test: the lines that begin with E."""
+    """Returns pytest's messages about each failed test: the lines that begin with E."""
     parts = re.findall(r"^_+ (test_\S+) _+$(.*?)(?=^_+ test_|^=+ short)", text, re.M | re.S)
     return {name: re.findall("^E .*$", body, re.M) for name, body in parts}
 
@@ -218,8 +218,7 @@ def reasons(text):
 @needs_can
 @pytest.mark.parametrize("seeds", [2, pytest.param(50, marks=pytest.mark.slow)])
 def test_repeated_tests(tmp_path, seeds):
-    """the command that a failed test prints repeats the failure, although it runs that test without the other tests of
-    the file"""
+    """the command that a failed test prints repeats the failure, although it runs only that test of the file"""
     (tmp_path / "test_it.py").write_text(RACES, encoding="utf-8")
     env = {**os.environ, "CANBUSD_RUN": command(), "CANBUSD": program(), "PYTHONPATH": os.path.join(ROOT, "python/src")}
     env["PYTEST_ADDOPTS"] = "-p canbusd.pytest_plugin -p no:cacheprovider --tb=short"
@@ -236,12 +235,12 @@ def test_repeated_tests(tmp_path, seeds):
             again = subprocess.run(f"{sys.executable} {line}", shell=True, **how).stdout
             (name,) = reasons(again)
             assert reasons(again)[name] == failed[name], (seed, whole, again)
-    # Two threads that take five turns have 32 possible orders.
+    # In each of the five rounds either thread can be first, so 32 orders are possible.
     assert len(orders) > min(seeds, 16), orders
 
 
-#: Makes each call of the package that can time out, with several timeouts and start times. Prints those that do not
-#: take exactly the timeout.
+#: Makes every call of the package that can time out, with several timeouts and start times. Prints the calls that do
+#: not take exactly the timeout.
 WAITS = """
 import contextlib, time
 import canbusd
@@ -269,14 +268,14 @@ with canbusd.Server("ecu,tester", bitrate=500000) as server:
 
 @needs_can
 def test_waits_of_the_package():
-    """calls of the package time out after exactly their timeout, whenever they begin"""
+    """every call of the package times out after exactly its timeout, whenever it begins"""
     env = {**os.environ, "CANBUSD": program(), "PYTHONPATH": os.path.join(ROOT, "python", "src")}
     ended = virtual(sys.executable, "-c", WAITS, env=env)
     assert (ended.returncode, set(ended.stdout.split("\n"))) == (0, {""}), ended
 
 
 def test_start_of_python(tmp_path):
-    """a test begins at the start of the run, however much Python has to read and compile before"""
+    """a test begins at the start of the run, however much Python has to read and compile first"""
     (tmp_path / "test_it.py").write_text("import time\ndef test_it():\n    print(time.monotonic())\n", encoding="utf-8")
     words = [sys.executable, "-m", "pytest", "-q", "-s", "-p", "no:cacheprovider", "test_it.py"]
     for env in ({}, {"PYTHONPYCACHEPREFIX": str(tmp_path / "new")}, {"PYTHONDONTWRITEBYTECODE": "1"}):

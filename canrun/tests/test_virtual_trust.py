@@ -1,4 +1,4 @@
-"""Virtual time: a run is closed to programs that it has not started, and gives no program additional rights."""
+"""Virtual time: programs outside a run have no access to it, and the run gives no program additional rights."""
 
 import signal
 import subprocess
@@ -12,8 +12,8 @@ from virtual_runs import nodes, virtual
 
 __all__ = ["nodes"]
 
-#: A program outside the run that connects to a coordinator as this user until the run has ended. Prints how many
-#: descriptors it received.
+#: A program outside the run. It connects to a coordinator as this user again and again until the run has ended. Prints
+#: how many descriptors it has received.
 STRANGER = textwrap.dedent(
     """
     import contextlib, os, socket, sys
@@ -35,7 +35,7 @@ STRANGER = textwrap.dedent(
     """
 )
 
-#: A program of the run that passes bytes through a pipe with pauses, and prints the time at its end.
+#: A program in the run that passes bytes through a pipe with pauses, and prints the time at the end.
 TICKS = textwrap.dedent(
     """
     import os, sys, threading, time
@@ -72,7 +72,7 @@ def test_stranger(user):
 
 @needs_gcc
 def test_alarms_of_others(nodes):
-    """alarms that a program without rights writes into the run's memory cause no signal outside the run"""
+    """alarms that a program without rights writes into the run's memory send no signal outside the run"""
     with subprocess.Popen(["sleep", "1000"]) as victim:
         try:
             ended = virtual(nodes / "forger", "alarm", victim.pid)
@@ -84,7 +84,7 @@ def test_alarms_of_others(nodes):
 
 @needs_gcc
 def test_alarms_of_the_run(nodes):
-    """forged alarms cause no signal to a program of the run that has more rights, but a program's own alarms work"""
+    """forged alarms send no signal to a program of the run that has more rights, but a program's own alarms work"""
     script = 'sleep 100 & victim=$!; "$0" alarm $victim; kill -0 $victim && echo lives; kill $victim'
     ended = virtual("bash", "-c", script, nodes / "forger")
     assert (ended.returncode, ended.stdout) == (0, "written\nlives\n"), ended
@@ -99,7 +99,7 @@ def test_slots_that_are_not_there(nodes):
     assert (ended.returncode, ended.stdout) == (0, "written\n1767225605\n"), ended
 
 
-#: Puts pipe ends that are always ready into the epoll of the run, and then sleeps.
+#: Adds pipe ends that are always ready to the epoll of the run, and then sleeps.
 READY = textwrap.dedent(
     """
     import os, select, time
@@ -120,14 +120,15 @@ READY = textwrap.dedent(
 
 
 def test_epoll_that_is_always_ready():
-    """the run continues even if a program has put descriptors that are always ready into the run's epoll"""
+    """the run continues even if a program has added descriptors that are always ready to the epoll of the run"""
     ended = virtual(sys.executable, "-c", READY)
     assert (ended.returncode, ended.stdout) == (0, "1020.0\n"), ended
 
 
 @pytest.mark.root
 def test_user_given_up():
-    """a program that has given up root's rights continues, and so do its children; the run notices when it ends"""
+    """a program that has given up root's rights continues, and so do its children; the run notices when the program
+    ends"""
     text = """
     import os, time
     os.setgid(65534)

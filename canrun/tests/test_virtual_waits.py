@@ -1,5 +1,5 @@
-"""Virtual time compared with real time: each kind of wait, in eight languages, takes exactly its time and returns the
-same result."""
+"""Virtual time compared with real time: every kind of wait, in eight languages, takes exactly the requested time and
+has the same result."""
 
 import os
 import re
@@ -20,7 +20,7 @@ TOPICS = (
     *("sleeps", "polls", "signals", "awaited", "signalfds", "cancels", "locks", "conditions", "threads", "timers"),
     *("timerfds", "files", "queues", "sockets", "processes", "by_number"),
 )
-#: By how many seconds a wait in real time may be longer, and how often all waits are tried on a busy machine.
+#: How many seconds longer a wait may take in real time, and how often all waits are tried on a busy machine.
 LATE, TRIES = 2.0, 4
 
 
@@ -42,14 +42,14 @@ def waits_in(text: str) -> Dict[str, Wait]:
 
 
 def real(*words) -> Dict[str, Wait]:
-    """Makes waits in real time, and returns them."""
+    """Performs waits in real time, and returns their results."""
     ended = subprocess.run([*map(str, words)], capture_output=True, text=True, timeout=100, check=False)
     assert ended.returncode == 0, ended
     return waits_in(ended.stdout)
 
 
 def compare(count: int, *words) -> None:
-    """Makes waits in virtual time and in real time, and compares them."""
+    """Performs waits in virtual time and in real time, and compares them."""
     ended = virtual(*words, options=("--stall", "10"))
     assert ended.returncode == 0, ended
     found = waits_in(ended.stdout)
@@ -76,7 +76,7 @@ def skip_without(tool: str) -> None:
 
 @pytest.fixture(scope="module", name="program_of_c")
 def make_program_of_c(request):
-    """Builds the C program that has all waits."""
+    """Builds the C program that performs the waits."""
     sources = [os.path.join(FOLDER, f"{name}.c") for name in ("main", *TOPICS)]
     words = ["gcc", *FLAGS, "-Wno-deprecated-declarations", *sources, "-lutil", "-o"]
     return made_once(request, "waits", lambda folder: subprocess.run([*words, folder / "waits"], check=True)) / "waits"
@@ -90,7 +90,7 @@ def names_of(topic):
 
 @needs_gcc
 def test_c(program_of_c):
-    """300 waits in C that run at the same time all take exactly their time"""
+    """300 waits in C that run at the same time all take exactly the requested time"""
     count = sum(len(names_of(topic)) for topic in TOPICS)
     assert count > 300
     compare(count, program_of_c)
@@ -121,13 +121,13 @@ SCRIPTS = [
 
 @pytest.mark.parametrize("script, command, count", SCRIPTS, ids=[script for script, _, _ in SCRIPTS])
 def test_script(script, command, count):
-    """waits in Python, Perl, bash, Tcl and JavaScript take exactly their time"""
+    """waits in Python, Perl, bash, Tcl and JavaScript take exactly the requested time"""
     skip_without(command[0])
     compare(count, *command, os.path.join(FOLDER, "languages", script))
 
 
 def test_cpp(tmp_path):
-    """waits in C++ take exactly their time"""
+    """waits in C++ take exactly the requested time"""
     skip_without("g++")
     source = os.path.join(FOLDER, "languages", "waits.cpp")
     subprocess.run(
@@ -137,7 +137,7 @@ def test_cpp(tmp_path):
 
 
 def test_java(tmp_path):
-    """waits in Java take exactly their time"""
+    """waits in Java take exactly the requested time"""
     skip_without("javac")
     subprocess.run(["javac", "-d", str(tmp_path), os.path.join(FOLDER, "languages", "Waits.java")], check=True)
     compare(13, "java", "-cp", str(tmp_path), "Waits")

@@ -1,4 +1,4 @@
-"""Runs programs in virtual time for tests, and cases whose output and files are compared."""
+"""Runs programs in virtual time for tests, and runs cases whose output and files are compared."""
 
 import importlib.util
 import os

@@ -30,7 +30,7 @@ static int open_node(const char *interface) {
     return node;
 }
 
-/* Returns the class of the error message frame that comes within a period, or 0 if none comes. */
+/* Waits for an error message frame, for one period. Returns the class of the frame, or 0 if none arrives. */
 static canid_t wait_for_error(int node) {
     struct pollfd polled = {node, POLLIN, 0};
     struct can_frame frame;

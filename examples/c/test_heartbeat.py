@@ -2,7 +2,7 @@
 
     python3 -m pytest examples/c
 
-`canbusd.run` starts the program by canbusd-run, which connects its CAN sockets to the test's server.
+`canbusd.run` starts the program with canbusd-run, which connects its CAN sockets to the test's server.
 """
 
 import subprocess

@@ -2,7 +2,7 @@
  *
  *     cluster INTERFACE
  *
- * It does the same as cluster.py, which has the description. */
+ * It does the same as cluster.py. See there for a description. */
 #include <linux/can.h>
 #include <linux/can/error.h>
 #include <linux/can/isotp.h>

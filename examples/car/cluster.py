@@ -2,10 +2,11 @@
 
     python3 cluster.py INTERFACE
 
-Every 50 milliseconds it sends its state in message 300. The state has the engine's speed, which comes in message 100. It
-has a lamp, which is on if no engine message came for 250 milliseconds, or if the engine's counter stayed the same for 400.
-And it warns of ice, depending on the temperature in page 1 of message 200. The cluster answers requests for its name
-(22 F1 90) by ISO-TP, with the identifiers 7E0 and 7E8. After each restart from bus off it counts its frames from 0 again.
+Every 50 milliseconds the cluster sends its state in message 300. The state contains the engine's speed, which arrives in
+message 100. It also contains a lamp, which is on if no engine message has arrived for 250 milliseconds, or if the engine's
+counter has not changed for 400 milliseconds. And it contains a warning of ice, which depends on the temperature in page 1
+of message 200. The cluster answers requests for its name (22 F1 90) over ISO-TP, with the identifiers 7E0 and 7E8. After
+every restart from bus off it counts its frames from 0 again.
 """
 
 import select
@@ -54,7 +55,7 @@ class Cluster:
 
 
 def answer(request):
-    """Returns the answer to a request of a tester."""
+    """Returns the answer to a request from a tester."""
     if request == b"\x22\xf1\x90":
         return b"\x62\xf1\x90" + NAME
     return bytes([0x7F, request[0], 0x31])

@@ -50,7 +50,7 @@ def restart(canbusd, name):
 
 
 def test_start_up(canbusd, rest):
-    """the cluster counts its messages from the first one on, and shows no lamp"""
+    """the cluster counts its messages, starting with the first one, and shows no lamp"""
     canbusd.expect_sequence(*({"signal": "Alive", "equals": number} for number in (1, 2, 3)), within=1)
     canbusd.expect_no_frame(signal="Lamp", above=0, within=0)
 
@@ -83,7 +83,7 @@ def test_an_engine_that_falls_silent(canbusd, rest):
 
 
 def test_an_engine_that_is_stuck(canbusd, rest):
-    """a lamp shows that the engine's counter does not change, although its messages come"""
+    """a lamp shows that the engine's counter does not change, although the engine's messages arrive"""
     rest.on_send("EngineData", lambda message: message.__setitem__("Counter", 7))
     canbusd.expect(signal="Lamp", equals="EngineStuck", within=1)
 
@@ -95,7 +95,7 @@ def test_a_destroyed_message_is_sent_again(canbusd, rest):
 
 
 def test_a_message_that_comes_twice(canbusd, rest):
-    """after a fault that only the engine saw, it repeats its message, so the cluster gets the same count twice"""
+    """the engine repeats its message after a fault that only it saw, so the cluster gets the same count twice"""
     canbusd.inject(Faults().next(3, sender="engine").last_bit())
     canbusd.wait_for(lambda: canbusd.rules_left() == 0)
     canbusd.expect_no_frame(signal="Lamp", above=0, within=0.3)
@@ -130,7 +130,7 @@ def test_diagnostics_under_faults(canbusd, rest):
 
 
 def test_load(canbusd, rest):
-    """a babbling node with the highest priority leaves a third of the bus to other nodes, which is enough"""
+    """a babbling node with the highest priority leaves a third of the bus time to other nodes, which is enough"""
     with canbusd.bus("tester") as tester:
         message = can.Message(arbitration_id=0x001, data=bytes(8), is_extended_id=False)
         task = tester.send_periodic([message], period=0.00035)

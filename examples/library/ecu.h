@@ -1,4 +1,4 @@
-/* An ECU that answers requests for its speed. Its CAN driver consists of these five functions. */
+/* An ECU that answers requests for its speed. Its CAN driver consists of five functions. */
 #ifndef ECU_H
 #define ECU_H
 

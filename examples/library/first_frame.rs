@@ -1,4 +1,4 @@
-// A bus in Rust, with declarations like those that bindgen writes: rustc first_frame.rs -l canbusd
+// A bus in Rust, with declarations like those that bindgen generates: rustc first_frame.rs -l canbusd
 use std::ffi::{c_char, CString};
 
 #[repr(C)]
@@ -25,7 +25,7 @@ extern "C" {
     fn canbusd_attempt(bus: *mut Raw, moment: u64, tried: *mut u8) -> u32;
 }
 
-/// A bus, which is freed once, by the thread that owns it.
+/// A bus, which is freed exactly once, by the thread that owns it.
 pub struct Bus(*mut Raw);
 
 impl Bus {

@@ -86,7 +86,7 @@ int main(void) {
     pass_millisecond();
     is_answered();
 
-    /* 32 faults in its answer make the ECU bus off. It restarts, and answers the next request. */
+    /* After 32 faults in its answer the ECU is bus off. It restarts, and answers the next request. */
     CHECK(canbusd_inject(bus, "next 32 from ecu global bit") == CANBUSD_OK);
     ask();
     for (int i = 0; i < 20 && !is_off(NULL); i++) {

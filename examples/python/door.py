@@ -1,7 +1,8 @@
 """A door on a CAN bus, as your own program might be. It has no code for canbusd.
 
-A command, 100, contains a number and whether to open. The door obeys the command with the next number, and replies with
-a report, 200. If a command is missing, the door requests it with 101.
+A command has the identifier 100. It contains a sequence number, and whether the door has to open. The door obeys the
+command with the next number, and replies with a report (identifier 200). If a command is missing, the door requests it
+with a frame 101.
 """
 
 import can
@@ -22,11 +23,11 @@ class Door:
     def __init__(self):
         self.is_open = False
         self.moves = 0
-        # The number of the next command.
+        # The sequence number of the next command.
         self.number = 0
 
     def report(self):
-        """Returns a report with the number of the last obeyed command, and whether the door is open."""
+        """Returns a report with the number of the last command that was obeyed, and whether the door is open."""
         return message(REPORT, (self.number - 1) % 256, self.is_open)
 
     def handle(self, received):
@@ -36,7 +37,7 @@ class Door:
         number, is_open = received.data
         ahead = (number - self.number) % 256
         if ahead >= 128:
-            # The door has already obeyed this command, because CAN may deliver a frame twice.
+            # The door has already obeyed this command. CAN may deliver a frame twice.
             return []
         if ahead > 0:
             return [message(REQUEST, self.number)]

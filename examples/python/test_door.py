@@ -1,4 +1,4 @@
-"""Faults that a door has to survive: frames that come twice, frames that it misses, lost arbitration, and bus off.
+"""Faults that a door has to survive: duplicated frames, missed frames, lost arbitration, and bus off.
 
     pip install ./python
     python3 -m pytest examples/python

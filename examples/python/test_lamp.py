@@ -18,7 +18,7 @@ search = hypothesis.settings(deadline=None, derandomize=True, database=None, max
 
 
 def ends_on(lamp, plan):
-    """Switches the lamp once. Returns whether it is on after that."""
+    """Runs the lamp on a bench with this fault plan and switches it once. Returns whether it is on after that."""
     with Bench(BUS, faults=plan) as bench:
         switch, node = bench.open("switch"), bench.open("lamp", error_frames=False)
         switch.send(TOGGLE, b"\x07")
@@ -39,7 +39,7 @@ def test_what_the_search_found():
     assert ends_on(Lamp(counts=True), FOUND)
 
 
-# The plans have too few faults to make the switch bus off, which takes 32.
+# The plans have too few faults to make the switch go bus off, which takes 32.
 @search
 @hypothesis.given(plan=strategies.fault_plans(BUS, attempts=8))
 def test_a_lamp_that_counts(plan):

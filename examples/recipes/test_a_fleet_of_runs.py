@@ -1,7 +1,7 @@
 """A fleet of runs.
 
-Runs share nothing, so a search can be spread over processors and machines: each run has a number. A failure is repeated by
-the number of its run on any machine, because a bench depends on nothing else:
+Runs share nothing, so a search can be spread over processors and machines: each run has a number. A failure can be
+repeated on any machine with the number of its run, because a bench depends on nothing else:
 
     seq 0 99 | parallel RUN={} python3 -m pytest -q test_a_fleet_of_runs.py
     sbatch --array=0-99 --wrap 'RUN=$SLURM_ARRAY_TASK_ID python3 -m pytest -q test_a_fleet_of_runs.py'

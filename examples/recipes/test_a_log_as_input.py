@@ -1,7 +1,7 @@
 """A log as input.
 
-python-can reads a log of candump, and `can.MessageSync` returns each frame when it is due, so that the frames are sent with
-their original timing. `send_many` would read the whole log first, and send it as fast as the bus allows. Here all frames
+python-can reads a candump log, and `can.MessageSync` returns each frame when it is due, so that the frames are sent with
+their original timing. `send_many` would read the whole log first, and send all frames as fast as the bus allows. Here all frames
 are sent on one interface; candump2bench keeps the interface of each frame.
 """
 

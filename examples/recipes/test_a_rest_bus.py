@@ -1,8 +1,8 @@
 """A rest bus.
 
-It simulates all nodes of a database except the one under test, which here notices that the engine falls silent. On a bench
-the send times are exact. With a server you write `with canbusd.rest_bus(..)` and the same calls; the thread of the rest bus
-then replaces `run`.
+A rest bus simulates all nodes of a database except the node under test. Here the node under test notices that the engine
+falls silent. On a bench the send times are exact. With a server you write `with canbusd.rest_bus(..)` and the same calls;
+the thread of the rest bus then replaces `run`.
 """
 
 import pytest

@@ -1,7 +1,7 @@
 """A run of days.
 
-A server that writes its record while it runs can run for days, and what it has written survives its end. Here the server is
-killed in the middle of a run, and the partial record is read.
+A server that writes its record while it runs can run for days. If the server is killed, the part of the record that it has
+written is still usable. Here the server is killed in the middle of a run, and the partial record is read.
 """
 
 import can

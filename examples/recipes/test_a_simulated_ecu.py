@@ -1,7 +1,7 @@
 """A simulated ECU.
 
 A tester uses UDS: a session, security access, a routine, trouble codes that take longer than P2, a refusal on demand, and
-an answer of which one segment is lost.
+an answer that loses one segment.
 """
 
 import pytest

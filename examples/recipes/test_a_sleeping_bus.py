@@ -1,8 +1,8 @@
 """A sleeping bus.
 
-Two nodes sleep until a network management message wakes them; in AUTOSAR such messages have identifiers from 500 on. Other
-frames do not wake them. While the door is awake, it sends its cyclic message. Both nodes sleep again after 300 ms without a
-network management message.
+Two nodes sleep until a network management message wakes them; in AUTOSAR such messages have identifiers from 500 upwards.
+Other frames do not wake them. While the door is awake, it sends its cyclic message. Both nodes sleep again after 300 ms
+without a network management message.
 """
 
 import pytest

@@ -1,7 +1,7 @@
 """CANopen heartbeats.
 
-A master monitors the heartbeat of node 5, which comes every 50 ms, with a consumer time of 120 ms (object 1016 of CiA 301). When
-the node is unplugged, the master sends the emergency 8130, heartbeat error. It receives heartbeats again after the node is
+Node 5 sends a heartbeat every 50 ms. A master monitors it with a consumer time of 120 ms (object 1016 of CiA 301). When the
+node is unplugged, the master sends the emergency 8130, heartbeat error. It receives heartbeats again after the node is
 plugged in.
 """
 

@@ -1,8 +1,8 @@
 """Lost arbitration on a server.
 
 No fault rule makes a node lose arbitration, but traffic does. If the bus has a bit rate, long frames occupy it, and frames
-that nodes send in the meantime wait. Of the waiting frames the one with the lowest identifier goes first, even if another was
-sent earlier.
+that nodes send in the meantime wait. Of the waiting frames the one with the lowest identifier is transmitted first, even
+if another one was sent earlier.
 """
 
 import can
@@ -15,8 +15,8 @@ LONG, FIRST, LATER = 0x001, 0x100, 0x200
 @pytest.mark.canbusd_sweep()
 def test_the_lower_identifier_goes_first(canbusd):
     with canbusd.bus("tester", fd=True) as tester, canbusd.bus("ecu") as ecu, canbusd.bus("gateway") as gateway:
-        # 64 bytes take more than a tenth of a second at this bit rate. So these frames win arbitration even if a busy
-        # machine delays the test.
+        # Three frames of 64 bytes take more than a tenth of a second at this bit rate. So these frames win arbitration
+        # even if a busy machine delays the test.
         for _ in range(3):
             tester.send(can.Message(arbitration_id=LONG, data=bytes(64), is_fd=True, is_extended_id=False))
         ecu.send(can.Message(arbitration_id=LATER, is_extended_id=False))

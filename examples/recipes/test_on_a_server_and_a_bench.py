@@ -1,7 +1,7 @@
 """On a server and on a bench.
 
-The same test runs on both: the ECU goes bus off and restarts, and its heartbeat continues. A bench uses the time of the bus,
-which passes while the test waits, and each run is the same.
+The same test runs on both: the ECU goes bus off and restarts, and its heartbeat continues. On a bench, time is bus
+time, which passes while the test waits, and every run is identical.
 """
 
 import pytest

@@ -1,7 +1,7 @@
 """One server for a module.
 
-A fixture of the module starts the server once. Each test has to leave the server as it found it. The logs and records go into
-a pytest folder, and the records are audited at the end.
+A fixture of the module starts the server once. Each test has to leave the server as it found it. The logs and records are
+written to a pytest folder, and the records are audited at the end.
 """
 
 import can

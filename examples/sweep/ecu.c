@@ -1,9 +1,9 @@
 /* A body controller for SocketCAN, with two faults that a sweep finds. It has no code for canbusd.
  *
- * Each frame 123 is one press of a button, and the controller answers with 124, which has the number of presses. The
- * first fault: a press has no number, so a frame that comes twice counts as two presses. Every 20 ms the controller
- * sends 200 with a counter. The second fault: the counter is incremented even if the write was refused, so receivers
- * see a gap after bus off. */
+ * Each frame 123 is one press of a button, and the controller answers with 124, which contains the number of presses.
+ * The first fault: a press has no number, so a frame that arrives twice counts as two presses. Every 20 ms the
+ * controller sends 200 with a counter. The second fault: the counter is incremented even if the write was refused, so
+ * receivers see a gap after bus off. */
 #include <errno.h>
 #include <linux/can.h>
 #include <linux/can/error.h>

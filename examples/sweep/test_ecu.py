@@ -27,7 +27,7 @@ def tester(canbusd, ecu):
 
 
 def received(bus, identifier, seconds):
-    """Yields the first byte of each frame with this identifier that comes within this time."""
+    """Yields the first byte of each frame with this identifier that arrives within `seconds` seconds."""
     end = time.monotonic() + seconds
     while (left := end - time.monotonic()) > 0:
         message = bus.recv(left)
@@ -37,7 +37,7 @@ def received(bus, identifier, seconds):
 
 @pytest.mark.canbusd_sweep()
 def test_a_press_counts_once(tester):
-    """Seven presses are counted as seven."""
+    """Seven presses of the button are counted as seven."""
     for _ in range(7):
         tester.send(can.Message(arbitration_id=0x123, is_extended_id=False), timeout=1)
         time.sleep(0.007)
@@ -46,7 +46,7 @@ def test_a_press_counts_once(tester):
 
 @pytest.mark.canbusd_sweep(faults=["destroyed", "twice", "burst", "busoff"], senders="ecu")
 def test_the_counter_has_no_gap(tester):
-    """Each counter value is the same as the previous one, or the next one, or 0 after a restart."""
+    """Every counter value is equal to the previous value, or is the next value, or is 0 after a restart."""
     before = None
     for now in received(tester, 0x200, 0.3):
         assert before is None or now in (before, before + 1, 0), f"{now} after {before}"

@@ -1,5 +1,5 @@
-"""A gateway with a race: it loses a request that comes while it handles another one. Requests come every 10 ms, and
-handling one takes 9.8 ms. So the loss shows only with a fault or another schedule."""
+"""A gateway with a race: it loses a request that arrives while it handles another one. Requests arrive every 10 ms, and
+handling one takes 9.8 ms. So the loss occurs only with a fault or another schedule."""
 
 import threading
 import time
@@ -9,7 +9,7 @@ import pytest
 
 
 class Gateway(can.Listener):
-    """Answers each request after 9.8 ms."""
+    """Answers every request after 9.8 ms."""
 
     def __init__(self, bus):
         self.bus, self.is_busy = bus, False

@@ -2,7 +2,7 @@
 
     CANBUSD_KERNEL=FOLDER python3 -m pytest examples/virtual_ecu
 
-`guest` in this folder makes the guest system, and says what it needs. The guest's program is `ecu`.
+The script `guest` in this folder makes the guest system; its first lines list what it needs. The guest's program is `ecu`.
 """
 
 import os
@@ -59,7 +59,7 @@ def ask(tester, value):
 
 
 def test_sigterm_where_nobody_acknowledges(machine, tmp_path):
-    """The second heartbeat waits for room, and the virtual machine waits with it, for a second."""
+    """The second heartbeat waits for room in the transmit queue for a second, and the virtual machine waits with it."""
     with Server("ecu", ack="peers", txqueue=1, out=tmp_path) as server:
         guest = server.start(machine, wait=True)
         guest.expect("heartbeat 2", within=START)

@@ -1,7 +1,7 @@
 /* CAN_BCM: the broadcast manager. */
 #include "probe.h"
 
-/* A message of this total length, which the kernel may refuse. */
+/* A case that writes a message of this total length, which the kernel may refuse. */
 #define HEADS(name, length, ...) \
     CASE(name, a = bcm("can0"), DO(write(a, (&(struct task){{__VA_ARGS__}, {{.can_id = 0x123, .len = 1}}}), length)))
 HEADS(nothing, 0, 0)
@@ -52,7 +52,7 @@ CASE(length_9, a = bcm("can0"),
 CASE(length_9_setup, a = bcm("can0"),
      DO(write(a, (&(struct task){{.opcode = TX_SETUP, .nframes = 1}, {{.can_id = 1, .len = 9}}}), 72)))
 
-/* Sockets before connect, and sockets on all interfaces. */
+/* Sockets that are not connected yet, and sockets on all interfaces. */
 CASE(unconnected, a = socket(PF_CAN, SOCK_DGRAM, CAN_BCM), TELL(a, ONE(0x123, 1), .opcode = TX_SEND, .nframes = 1))
 CASE(unconnected_read, a = socket(PF_CAN, SOCK_DGRAM, CAN_BCM), glance(a))
 CASE(connect_twice, a = bcm("can0"), DO(connect(a, TO(at("can0")))))
@@ -149,7 +149,7 @@ CASE(cp_id_of_setup, a = bcm("can0"), b = raw("can1"),
           .count = 1, .ival1 = {0, 10000}, .nframes = 1),
      take(b, 1))
 
-/* Receives frames through a content filter with this mask. */
+/* A case that receives frames through a content filter with this mask. */
 #define RECEIVES(name, flags_, frames, ...)                                                                           \
     CASE(name, a = bcm("can0"), b = raw("can1"),                                                                      \
          tell(a,                                                                                                      \

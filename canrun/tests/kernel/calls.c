@@ -1,4 +1,4 @@
-/* Makes the calls of the cases, and prints their results. */
+/* Makes the system calls of the cases, and prints their results. */
 #include "probe.h"
 
 int a, b, c, d;

@@ -1,5 +1,5 @@
-/* CAN_J1939: names and the addresses that they claim. a and c are J1939 sockets on can0; b is a raw socket on can1 that
- * plays the other nodes. A claimed address becomes valid after 250 milliseconds without a contest. */
+/* CAN_J1939: names, and the addresses that they claim. a and c are J1939 sockets on can0. b is a raw socket on can1
+ * that plays the other nodes. A claimed address becomes valid if no other node claims it within 250 milliseconds. */
 #include "j1939.h"
 
 #define LINE b = line()

@@ -2,7 +2,8 @@
 #include "probe.h"
 #include <linux/filter.h>
 
-/* Sends a frame with one control message of this length, level, type and first number, in a buffer of this size. */
+/* Sends a frame with one control message, in a buffer of `room` bytes. The control message has this length, level and
+   type, and begins with `number`. */
 static void send_with(int fd, size_t room, size_t length, int level, int type, uint64_t number) {
     _Alignas(8) char control[64] = {0};
     struct cmsghdr head = {.cmsg_len = length, .cmsg_level = level, .cmsg_type = type};
@@ -36,8 +37,8 @@ CASE(sends_unbound, a = socket(PF_CAN, SOCK_RAW, CAN_RAW), send_with(a, 24, 4, S
 CASE(sends_bcm, a = bcm("can0"), send_with(a, 24, 4, SOL_SOCKET, 99, 0))
 CASE(sends_isotp, a = tp(RX, TX, 0), b = raw("can1"), send_with(a, 24, 4, SOL_SOCKET, 99, 0))
 
-/* `passes` attaches a filter that passes this many bytes of each frame. `passes_data` passes only frames with this
- * first data byte. */
+/* `passes` attaches a filter that lets `bytes` bytes of every frame through. `passes_data` lets only frames with this
+ * first data byte through. */
 static void passes(int fd, unsigned bytes) {
     struct sock_filter code[] = {{BPF_RET | BPF_K, 0, 0, bytes}};
     DO(setsockopt(fd, SOL_SOCKET, SO_ATTACH_FILTER, &(struct sock_fprog){1, code}, sizeof(struct sock_fprog)));
@@ -61,7 +62,7 @@ FILTERED(filter_of_data, passes_data(a, 2), put(b, FRAME(0x123, 1)), put(b, FRAM
          put(b, FRAME(0x125, 2)), look(a), until(a, POLLIN), from(a, 24), glance(a))
 FILTERED(filter_detached, passes(a, 8), DO(setsockopt(a, SOL_SOCKET, SO_DETACH_FILTER, "", 4)), PUT(b, 0x123), look(a))
 
-/* Prints the flags of a received message, which show whether it was cut. */
+/* Prints the flags of a received message, which show whether it was truncated. */
 static void flags_of(int fd, size_t room) {
     _Alignas(8) char data[200];
     struct msghdr message = {.msg_iov = &(struct iovec){data, room}, .msg_iovlen = 1, .msg_flags = -1};

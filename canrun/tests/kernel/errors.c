@@ -3,7 +3,8 @@
 
 static const can_err_mask_t every = CAN_ERR_MASK;
 #define BUSERROR (CAN_ERR_FLAG | CAN_ERR_BUSERROR)
-/* What a socket with this error mask receives if a program writes an error message frame. */
+/* A case that prints the frames that a socket with this error mask receives after a program has written an error
+   message frame. */
 #define MASKED(name, interface, mask)                                                                         \
     CASE(name, a = raw(interface), b = raw("can0"), DO(set(a, SOL_CAN_RAW, CAN_RAW_ERR_FILTER, (int)(mask))), \
          put(b, FRAME(BUSERROR, 1, 2, 3, 4, 5, 6, 7, 8)), PUT(b, LAST), take_to(a, LAST))

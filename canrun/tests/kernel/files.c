@@ -1,4 +1,4 @@
-/* File and pipe calls on CAN sockets. a writes or reads; b is the other end. */
+/* File and pipe calls on CAN sockets. The socket a writes or reads, and b is at the other end of the bus. */
 #include "probe.h"
 #include <sys/sendfile.h>
 #include <sys/syscall.h>

@@ -1,7 +1,7 @@
-/* The frames that a CAN_RAW socket receives. */
+/* Which frames a CAN_RAW socket receives with its filters. */
 #include "probe.h"
 
-/* Adds a filter for the last frame of the set to the socket's filters. */
+/* Appends a filter for the last frame of the set to a list of filters. */
 #define AND_LAST \
     { LAST, CAN_SFF_MASK | CAN_EFF_FLAG }
 #define PASSES(name, ...) \

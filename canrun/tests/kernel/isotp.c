@@ -91,7 +91,7 @@ CASE(send_8300, a = tp(RX, TX, 0), b = peer(), long_message(a, 8300), take(b, 1)
 CASE(send_8301, a = tp(RX, TX, 0), b = peer(), long_message(a, 8301))
 CASE(send_66000, a = tp(RX, TX, 0), b = peer(), long_message(a, 66000))
 
-/* Messages of several frames. */
+/* Messages that consist of several frames. */
 #define FIRST(flags) \
     a = tp(RX, TX, flags), b = peer(), DO(write(a, "0123456789abcdefghijklmnopqrstuvw", 33)), take(b, 1)
 CASE(several, FIRST(0), SAYS(b, 0x30, 0, 0), take(b, 4), until(a, POLLOUT))
@@ -113,7 +113,7 @@ CASE(several_forced_stmin, a = isotp(), set_options(a, CAN_ISOTP_FORCE_TXSTMIN),
      SETS(a, SOL_CAN_ISOTP, CAN_ISOTP_TX_STMIN, &(uint32_t){1000000}, 4), DO(bind(a, TO(ids(RX, TX)))), b = peer(),
      DO(write(a, "0123456789abcdefghijk", 21)), take(b, 1), SAYS(b, 0x30, 0, 0x7F), take(b, 3))
 
-/* A sent message ends with this failure; then the next message is written. */
+/* A case in which the receiver's reply makes a message fail. It prints the error, and then writes the next message. */
 #define FAILS(name, flags, ...) \
     CASE(name, FIRST(flags), SAYS(b, __VA_ARGS__), until(a, POLLOUT), error_of(a), DO(write(a, "x", 1)), take(b, 1))
 FAILS(fails_overflow, 0, 0x32, 0, 0)

@@ -1,4 +1,4 @@
-/* The functions that the cases of CAN_J1939 use in addition to probe.h. The cases are for test_run_kernel.py. */
+/* Functions for the CAN_J1939 cases of test_run_kernel.py, in addition to those of probe.h. */
 #ifndef PROBE_J1939_H
 #define PROBE_J1939_H
 
@@ -26,14 +26,14 @@ int named(uint64_t name, uint8_t address);
 /* Makes a raw socket on can1 that receives all frames with an extended identifier. */
 int line(void);
 
-/* Functions that send this many bytes (1, 2, 3 and so on) to an address or a name, and print the result. */
+/* Functions that send `length` bytes (1, 2, 3 and so on) to an address or a name, and print the result. */
 void send_to(int fd, uint8_t address, uint32_t group, size_t length);
 void send_to_name(int fd, uint64_t name, uint32_t group, size_t length);
 void send_flags(int fd, uint8_t address, uint32_t group, size_t length, int flags);
 void request_claims(int fd);
-/* Sends an address claim from a socket that is bound to the name and the address. */
+/* Sends an address claim from a socket that is bound to this name and this address. */
 void claim(int fd, uint64_t name, uint8_t address);
-/* Sends the same address claim as a frame of another node. */
+/* Sends the same address claim as a raw frame, as another node would. */
 void other_claims(int fd, uint64_t name, uint8_t address);
 /* Macros that write a frame. Its identifier contains the priority, the group, the destination and the source. */
 #define HEARS(fd, id, ...) put(fd, FRAME((id) | CAN_EFF_FLAG, __VA_ARGS__))
@@ -43,17 +43,17 @@ void other_claims(int fd, uint64_t name, uint8_t address);
  * packet's number. */
 void packets(int fd, unsigned first, unsigned number);
 void extended_packets(int fd, unsigned first, unsigned number);
-/* Reads this many frames, and prints only the last. */
+/* Reads `number` frames, and prints only the last one. */
 void take_last(int fd, int number);
 
-/* Waits for a message and prints its data, source and control messages. `receive_none` prints whether no message comes.
- */
+/* Waits for a message, and prints its data, source and control messages. `receive_none` prints whether no message
+ * arrives. */
 void receive(int fd);
 void receive_none(int fd);
 /* Receives a message into buffers of these sizes: for the data, for the control messages and for the address. */
 void receive_into(int fd, size_t room, size_t control, size_t name);
 
-/* Turns the error queue on with these flags of SO_TIMESTAMPING. */
+/* Enables the error queue with these flags of SO_TIMESTAMPING. */
 void notices(int fd, unsigned flags);
 /* Waits for an entry in the error queue and prints it. `notice_none` prints whether there is none. */
 void notice(int fd);

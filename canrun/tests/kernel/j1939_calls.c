@@ -1,4 +1,4 @@
-/* Makes the calls of the CAN_J1939 cases, and prints their results. */
+/* Makes the system calls of the CAN_J1939 cases, and prints their results. */
 #include "j1939.h"
 
 #include <linux/errqueue.h>
@@ -143,7 +143,7 @@ static void say_controls(struct msghdr *message) {
     }
 }
 
-/* Prints the first 16 bytes, and whether the remaining bytes are as sent. */
+/* Prints the first 16 bytes, and whether the remaining bytes are those that were sent. */
 static void say_data(const unsigned char *data, size_t length) {
     bool is_text = length > 16;
     say(":");

@@ -1,4 +1,4 @@
-/* Duplicates of a socket, and what closing it does. */
+/* Duplicates of a socket, and the effects of closing it. */
 #include "probe.h"
 
 CASE(closed_write, a = raw("can0"), DO(close(a)), DO(write(a, FRAME(0x123, 1), 16)), DO(read(a, (char[16]){0}, 16)),

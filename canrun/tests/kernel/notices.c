@@ -52,7 +52,7 @@ CASE(transfer_next, QUEUED(STAMPS), send_to(a, OTHER, GROUP, 20), send_to(a, OTH
 CASE(extended, QUEUED(STAMPS), c = node(OTHER), send_to(a, OTHER, GROUP, 2000), receive(c), pass(50), notice(a),
      notice(a), notice_none(a))
 
-/* Ends each active transfer. A transfer that is still active when the last socket is closed would disturb the next
+/* Aborts every active transfer. A transfer that is still active when the last socket is closed would disturb the next
  * case. */
 #define ENDS ABORTS(3), EXTENDED_CONTROLS(b, 0xFF, 3, 0xFF, 0xFF, 0xFF, 0, 0x23, 1), pass(20)
 #define GETS(length, total, most) CONTROLS(b, 0x10, length, 0, total, most, 0, 0x23, 1), take(b, 1)

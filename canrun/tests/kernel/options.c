@@ -1,7 +1,7 @@
 /* Setting and reading socket options. */
 #include "probe.h"
 
-/* Options of CAN_RAW: the default value, the value after 1 and after 2 were set, and calls with other lengths. */
+/* Options of CAN_RAW: the default value, the value after 1 and after 2 have been set, and calls with other lengths. */
 #define FLAG(name, option)                                                                                            \
     CASE(name, a = raw("can0"), get(a, SOL_CAN_RAW, option, 4), DO(set(a, SOL_CAN_RAW, option, 1)),                   \
          get(a, SOL_CAN_RAW, option, 4), DO(set(a, SOL_CAN_RAW, option, 2)), get(a, SOL_CAN_RAW, option, 4))          \
@@ -29,7 +29,8 @@ LEVEL(bcm_by_raw, bcm("can0"), SOL_CAN_RAW, CAN_RAW_LOOPBACK)
 LEVEL(isotp_by_raw, isotp(), SOL_CAN_RAW, CAN_RAW_LOOPBACK)
 LEVEL(isotp_by_tcp, isotp(), 6, 1)
 
-/* Options of SOL_SOCKET: the default value, the value after 1 was set, and the values on BCM and ISO-TP sockets. */
+/* Options of SOL_SOCKET: the default value, the value after 1 has been set, and the values for BCM and ISO-TP sockets.
+ */
 #define READ(option) CASE(get_##option, a = raw("can0"), get(a, SOL_SOCKET, option, 4))
 #define BOTH(option)                                                   \
     CASE(get_##option, a = raw("can0"), get(a, SOL_SOCKET, option, 4)) \

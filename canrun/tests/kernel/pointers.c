@@ -47,7 +47,8 @@ NOWHERE(epoll_event, epoll_ctl(epoll_create1(0), EPOLL_CTL_ADD, a, (struct epoll
 NOWHERE(poll_list, poll((struct pollfd *)nowhere, 1, 0))
 NOWHERE(accept_address, accept(a, (struct sockaddr *)nowhere, (socklen_t *)nowhere))
 
-/* Two frames are sent. The read of the first one cannot copy its data. A later read shows which frame is next. */
+/* A case in which two frames are sent. The read of the first frame can't copy its data. A later read shows which frame
+   is next. */
 #define INTO(name, ...)                                                                                           \
     CASE(name, a = raw("can1"), b = raw("can0"), PUT(b, 0x123), PUT(b, 0x124), until(a, POLLIN), DO(__VA_ARGS__), \
          take_to(a, 0x124))

@@ -42,7 +42,7 @@ CASE(epoll_isotp_sending, a = tp(RX, TX, 0), b = peer(), watch(a, EPOLLOUT), wat
      DO(write(a, "0123456789", 10)), take(b, 1), watched(false), SAYS(b, 0x30, 0, 0), take(b, 1), until(a, POLLOUT),
      watched(true))
 
-/* Signals that come while a call waits. */
+/* Signals that arrive while a call waits. */
 #define INTERRUPTED(name, how, ...) CASE(name, signals(how), __VA_ARGS__)
 INTERRUPTED(read_interrupted, 0, a = raw("can0"), soon(), DO(read(a, (char[16]){0}, 16)))
 INTERRUPTED(read_restarted, SA_RESTART, a = raw("can1"), b = raw("can0"), soon(), BESIDE(150, PUT(b, 0x123)),

@@ -45,7 +45,8 @@ static void set_barriers(void) {
     }
 }
 
-/* The limits of `quiet` in milliseconds. Even the longest is far below the second that ISO-TP waits for a frame. */
+/* The minimum and the maximum of `quiet` in milliseconds. Even the maximum is far below the second for which ISO-TP
+   waits for a frame. */
 enum { SHORTEST_QUIET = 50, LONGEST_QUIET = 200 };
 int quiet = SHORTEST_QUIET;
 
@@ -70,7 +71,7 @@ static void settle(void) {
     quiet = (int)(slow < SHORTEST_QUIET ? SHORTEST_QUIET : slow > LONGEST_QUIET ? LONGEST_QUIET : slow);
 }
 
-/* Runs the case in its own process. Its sockets are closed one by one, as at the end of a program. */
+/* Runs the case in the child process. Closes its sockets one by one, as the end of a program does. */
 static void alone(const struct probe *probe) {
     timer_t timer;
     struct sigevent event = {.sigev_notify = SIGEV_SIGNAL, .sigev_signo = SIGKILL};

@@ -1,4 +1,4 @@
-/* Cases of SocketCAN for test_run_kernel.py. Each case prints one line, which is the same on the kernel and on canbusd.
+/* SocketCAN cases for test_run_kernel.py. Each case prints one line, which is the same for the kernel and for canbusd.
  */
 #ifndef PROBE_H
 #define PROBE_H
@@ -57,7 +57,7 @@ void result(long value);
 /* The value that the last call returned. */
 extern long returned;
 #define DO(...) (errno = 0, result((long)(__VA_ARGS__)))
-/* Prints 0 if a call returned a descriptor, whatever its number, or else the errno. */
+/* Prints 0 if a call returned a descriptor, whatever its number is. Otherwise prints the errno. */
 #define OPEN(...) (errno = 0, result((__VA_ARGS__) < 0 ? -1 : 0))
 #define SETS(...) DO(setsockopt(__VA_ARGS__))
 
@@ -79,7 +79,7 @@ void set_options(int fd, unsigned flags);
 #define TX 0x123
 int peer(void);
 
-/* An address with room for more bytes than usual. The functions below print the socket's own address. */
+/* An address in a buffer that is longer than usual. The functions below print the socket's own address. */
 struct wide {
     struct sockaddr_can can;
     char more[200];
@@ -114,46 +114,46 @@ char *halfway(size_t bytes);
 
 /* How many milliseconds to wait for unwanted frames. The value is larger on a slower machine. */
 extern int quiet;
-/* Reads this many frames, however long each takes, and all further frames that come soon after. */
+/* Reads this many frames, however long each takes, and all further frames that arrive soon after. */
 void take(int fd, int expected);
-/* Reads frames until the frame with this identifier. */
+/* Reads frames up to the frame with this identifier. */
 void take_to(int fd, canid_t id);
 /* Reads the frame of the last write, and prints its bytes up to the last nonzero one. After a failed write no frame is
  * expected. */
 void look(int fd);
-/* Functions that read messages: an ISO-TP socket's, up to a message with the byte 0x77, or a CAN_BCM socket's, up to
- * the frame LAST from `writer`. */
+/* Functions that read messages: from an ISO-TP socket, up to a message with the byte 0x77; or from a CAN_BCM socket, up
+ * to the frame LAST, which is sent by `writer`. */
 void message(int fd);
 void message_to_77(int fd);
 void change(int fd);
 void changes_to_last(int fd, int writer);
-/* Functions that read without waiting, with the address, several messages at once, or with control messages. */
+/* Functions that read without waiting: with the address, several messages at once, or with control messages. */
 void glance(int fd);
 void from(int fd, int length);
 void several_from(int fd, unsigned number, int flags);
 void controls(int fd, size_t room);
 
-/* `until` waits for one of these events and prints the events that the socket then has. `events` prints the present
- * events. */
+/* `until` waits for one of these events, and then prints all events of the socket. `events` prints the present events.
+ */
 void until(int fd, short events);
 void events(int fd, short events);
 void selected(int fd);
 void watch(int fd, unsigned events);
-/* Checks that the watched descriptor gets an event, however long that takes, or that it gets none. */
+/* Checks that the watched descriptor gets an event, however long it takes, or that it gets none. */
 void watched(bool is_expected);
 /* Waits for this many milliseconds. Only for cases in which time must pass. */
 void pass(int milliseconds);
-/* `signals` and `signals_of` install a handler of SIGALRM, or of another signal, with these flags. `soon` sends SIGALRM
- * in 50 ms. `caught` prints how many signals came. */
+/* `signals` and `signals_of` install a handler for SIGALRM, or for another signal, with these flags. `soon` sends
+ * SIGALRM in 50 ms. `caught` prints how many signals arrived. */
 void signals(int flags);
 void signals_of(int number, int flags);
 void soon(void);
 void caught(void);
-/* `lasted` prints whether more than this many milliseconds have passed since lasts_from. */
+/* `lasted` prints whether more than this many milliseconds have passed since `lasts_from` was called. */
 void lasts_from(void);
 void lasted(int milliseconds);
 
-/* Functions that set options and print them. */
+/* Functions that set socket options, and functions that print them. */
 int set(int fd, int level, int option, int value);
 void get(int fd, int level, int option, socklen_t length);
 void get_length(int fd, int level, int option, socklen_t length);
@@ -162,7 +162,7 @@ void error_of(int fd);
 #define FILTER(fd, ...) filter(fd, (struct can_filter[]){__VA_ARGS__}, sizeof((struct can_filter[]){__VA_ARGS__}))
 void filter(int fd, const struct can_filter *filters, size_t length);
 
-/* A message to the broadcast manager. TELL has the frames first, and then the fields of the head. */
+/* A message to the broadcast manager. The arguments of TELL are the frames, followed by the fields of the head. */
 struct task {
     struct bcm_msg_head head;
     _Alignas(8) struct can_frame frames[4];
@@ -185,7 +185,7 @@ void two_ends(size_t length, unsigned char block);
 
 /* Evaluates an expression in a separate process, which starts after this many milliseconds. */
 #define BESIDE(milliseconds, ...) (fork() == 0 ? pass(milliseconds), (__VA_ARGS__), _exit(0) : (void)0)
-/* Passes a socket through a pair of Unix sockets; d is the received copy. */
+/* Passes a socket through a pair of Unix sockets. The received copy is d. */
 void passed(int fd);
 void many_sockets(int number);
 void one_after_other(int number);

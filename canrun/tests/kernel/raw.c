@@ -1,14 +1,14 @@
 /* Writes and reads on CAN_RAW sockets. */
 #include "probe.h"
 
-/* A frame of 3 bytes in a larger buffer, and a -1 that the compiler does not know. */
+/* A frame of 3 bytes in a larger buffer, and a -1 that is hidden from the compiler. */
 static const union {
     struct canfd_frame frame;
     char room[100];
 } wide = {{.can_id = 0x123, .len = 3, .data = {1, 2, 3}}};
 static volatile int minus_1 = -1;
 
-/* Writes this many bytes to a socket without FD frames, and to a socket with FD frames. */
+/* A case that writes `length` bytes to a socket without FD frames, and then with FD frames. */
 #define WRITES(name, length)                                                                          \
     CASE(name, a = raw("can0"), b = raw("can1"), with_fd(b), DO(write(a, &wide, length)), with_fd(a), \
          DO(write(a, &wide, length)), take(b, (length) == 16 || (length) == 72 ? 1 : 0))
@@ -21,7 +21,7 @@ WRITES(write_71, 71)
 WRITES(write_72, 72)
 WRITES(write_73, 73)
 
-/* Writes a frame with these contents. */
+/* A case that writes a frame with these contents. */
 #define CARRIES(name, ...) \
     CASE(name, a = raw("can0"), b = raw("can1"), DO(write(a, &(struct can_frame){__VA_ARGS__}, 16)), look(b))
 CARRIES(frame_plain, .can_id = 0x123, .len = 2, .data = {1, 2})
@@ -80,7 +80,7 @@ SENDS(send_dontroute, MSG_DONTROUTE)
 CASE(send_oob, a = raw("can0"), DO(send(a, FRAME(0x123, 1), 16, MSG_OOB)))
 CASE(send_errqueue, a = raw("can0"), DO(send(a, FRAME(0x123, 1), 16, MSG_ERRQUEUE)))
 
-/* Calls sendto with this address on a socket that is bound to can0. */
+/* A case that calls sendto with this address on a socket that is bound to can0. */
 #define SENDS_TO(name, address, length)                                                                    \
     CASE(name, a = raw("can0"), b = raw("can1"), c = raw("can0"),                                          \
          DO(sendto(a, FRAME(0x123, 1), 16, 0, (const struct sockaddr *)(address), length)), PUT(c, 0x7F0), \
@@ -160,7 +160,7 @@ CASE(from_all, a = raw(NULL), b = raw("vcan0"), PUT(b, 0x123), until(a, POLLIN),
 CASE(from_own, a = raw("can0"), set(a, SOL_CAN_RAW, CAN_RAW_RECV_OWN_MSGS, 1), PUT(a, 0x123), until(a, POLLIN),
      from(a, 24))
 
-/* Which sockets receive a sent frame. */
+/* Cases that show which sockets receive a sent frame. */
 CASE(other_end, a = raw("can0"), b = raw("can1"), PUT(a, 0x123), take(b, 1))
 CASE(neighbour, a = raw("can0"), b = raw("can0"), PUT(a, 0x123), take(b, 1), take(a, 0))
 CASE(own, a = raw("can0"), DO(set(a, SOL_CAN_RAW, CAN_RAW_RECV_OWN_MSGS, 1)), PUT(a, 0x123), take(a, 1))

@@ -1,4 +1,4 @@
-/* socket, bind, names and addresses. */
+/* socket, bind, socket names and addresses. */
 #include "probe.h"
 
 #define TYPE(name, type, protocol) CASE(name, OPEN(socket(PF_CAN, type, protocol)))

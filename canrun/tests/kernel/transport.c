@@ -67,7 +67,7 @@ CASE(bam_own_interface, TO_ALL, c = broadcast(node(OTHER)), send_to(a, ALL, GROU
      receive_none(a))
 CASE(bam_short_data, TO_ALL, BAM(10, 2), HEARS(b, 0x18EBFF90, 1, 2), BAM_DATA(1), BAM_DATA(2), receive_none(a))
 
-/* Ends each active transfer. A transfer that is still active when the last socket is closed would disturb the next
+/* Aborts every active transfer. A transfer that is still active when the last socket is closed would disturb the next
  * case. */
 #define ENDS ABORTS(3), EXTENDED_CONTROLS(b, 0xFF, 3, 0xFF, 0xFF, 0xFF, 0, 0x23, 1), pass(20)
 #define REQUESTS(length, total, most) CONTROLS(b, 0x10, length, 0, total, most, 0, 0x23, 1)
@@ -155,7 +155,7 @@ CASE(both_in_pieces, BOTH,
                 0)),
      receive(c))
 
-/* Sends until SO_SNDBUF is used up, which counts the waiting segments. */
+/* Sends segments until SO_SNDBUF is used up. The waiting segments count towards SO_SNDBUF. */
 static void flood_segments(int fd, int number, int flags) {
     int done = 0;
     while (done < number && sendto(fd, "12345678", 8, flags, WAY("can0", 0, GROUP, OTHER)) == 8) {

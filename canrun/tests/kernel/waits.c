@@ -2,7 +2,7 @@
 #include "probe.h"
 #include <sys/stat.h>
 
-/* How many milliseconds to wait for frames that must come, and the maximum number of frames that are read. */
+/* How many milliseconds to wait for frames that must arrive, and the maximum number of frames to read. */
 enum { PATIENCE = 5000, MOST = 40 };
 
 static bool comes(int fd, short wanted, int milliseconds) {
@@ -59,7 +59,7 @@ void take(int fd, int expected) {
     }
 }
 
-/* Repeats the call until it returns `last`, or until nothing comes. */
+/* Repeats the call until it returns `last`, or until no more messages arrive. */
 static void each_to(int fd, canid_t (*one)(int), canid_t last) {
     for (int number = 0; number < MOST; number++) {
         if (!comes(fd, POLLIN, PATIENCE)) {
@@ -93,7 +93,7 @@ void look(int fd) {
     bytes(got, used);
 }
 
-/* Reads a message and prints it. Returns its byte if it has exactly one, and otherwise 0. */
+/* Reads a message and prints it. If the message has exactly one byte, returns this byte, and otherwise 0. */
 static canid_t message_one(int fd) {
     static unsigned char room[9000];
     errno = 0;

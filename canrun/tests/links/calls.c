@@ -1,4 +1,4 @@
-/* Makes the calls of the cases, and prints their results. */
+/* Makes the system calls of the cases, and prints their results. */
 #include "links.h"
 
 #include <dirent.h>
@@ -10,7 +10,7 @@
 
 /* ---- ip ---- */
 
-/* Runs a command and reads its output, without canbusd-run's notes. Returns the command's status. */
+/* Runs a command and reads its output, without the notes of canbusd-run. Returns the exit status of the command. */
 static int output_of(const char *words, char *room, size_t size) {
     size_t have = 0;
     char line[2048];
@@ -185,7 +185,7 @@ static const char *name_in(const struct asked *link) {
     return name ? (const char *)(name + 1) : "none";
 }
 
-/* Prints whether the message is not for this socket, or does not belong to the last request. */
+/* Prints `,pid` if the message is for another socket, and `,seq` if it does not belong to the last request. */
 static void say_odd(int fd, const struct nlmsghdr *head) {
     struct sockaddr_nl own = {0};
     socklen_t length = sizeof own;
@@ -207,7 +207,7 @@ static void say_message(int fd, const struct nlmsghdr *head) {
     say_odd(fd, head);
 }
 
-/* Reads a datagram if one comes soon. Returns its length, or 0. */
+/* Reads a datagram if one arrives soon. Returns its length, or 0. */
 static size_t receive(int fd) {
     struct pollfd polled = {fd, POLLIN, 0};
     ssize_t length = poll(&polled, 1, quiet) > 0 ? recv(fd, received, sizeof received, MSG_DONTWAIT) : -1;

@@ -1,4 +1,4 @@
-/* A socket on all interfaces: from which interface a frame comes, and on which interface a frame is sent. */
+/* A socket on all interfaces: at which interface a frame arrives, and on which interface a frame is sent. */
 #include "check.h"
 
 /* The interface of the second bus. */
@@ -16,7 +16,7 @@ int main(void) {
     length = sizeof from;
     CHECK(recvfrom(any, &frame, sizeof frame, 0, (struct sockaddr *)&from, &length) == 16 && number_of(&frame) == 1);
     CHECK(from.can_ifindex == to.can_ifindex);
-    /* The frame arrives by loopback at can0, and from the bus at can1. */
+    /* The frame arrives at can0 by loopback, and at can1 from the bus. */
     send_numbered(can0, 0x123, 2);
     bool has_can0 = false, has_can1 = false;
     for (int i = 0; i < 2; i++) {

@@ -1,6 +1,6 @@
-/* A socket on all interfaces receives the frames in order, from the first frame on: a gateway's answer comes after the
- * frame that caused it, and timestamps never decrease. There are two buses, and on each a second interface on which the
- * program listens. */
+/* A socket on all interfaces receives the frames in order, starting with the first frame: a gateway's answer comes
+ * after the frame that caused it, and timestamps never decrease. There are two buses, and the program also listens on a
+ * second interface of each bus. */
 #include "check.h"
 #include <pthread.h>
 
@@ -52,7 +52,7 @@ int main(void) {
     for (unsigned i = 0; i < FRAMES; i++) {
         send_patiently(writer, 0x100, i);
     }
-    /* Each frame arrives once from each interface of its bus: can0 and can1, or car0 and car1. */
+    /* Each frame arrives once at each interface of its bus: can0 and can1, or car0 and car1. */
     for (; count < 4 * FRAMES; count++) {
         struct can_frame frame = take(all, &moment);
         CHECK(moment >= last);

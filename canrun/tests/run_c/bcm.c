@@ -1,5 +1,5 @@
 /* The broadcast manager, as in Documentation/networking/can.rst and linux/can/bcm.h: cyclic frames, content filters,
- * timeouts, the throttle, replies to remote frames, and each errno. */
+ * timeouts, the throttle, replies to remote frames, and every errno. */
 #include "check.h"
 
 struct message {
@@ -104,7 +104,7 @@ static void cyclic(void) {
     FAILS(give((struct message){.head = {.opcode = TX_READ, .can_id = 77}}), EINVAL);
 }
 
-/* Sends three frames, 10 ms apart; then the task stops, and the program gets a message. */
+/* Sends three frames, 10 ms apart. Then the task stops, and the program receives a message about it. */
 static void counted(void) {
     struct message task = {.head = {.opcode = TX_SETUP,
                                     .flags = SETTIMER | STARTTIMER | TX_COUNTEVT | TX_CP_CAN_ID,
@@ -186,7 +186,7 @@ static void remote(void) {
     get(raw, 0x220, 42);
 }
 
-/* For a socket on all interfaces, sendto names the interface, and recvfrom returns the interface of a frame. */
+/* On a socket for all interfaces, sendto names the interface, and recvfrom returns the interface of the frame. */
 static void all_interfaces(void) {
     int all = opened(NULL);
     struct sockaddr_can to = address_of("can0"), from;

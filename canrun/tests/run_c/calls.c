@@ -1,4 +1,4 @@
-/* Each way to read and write a frame, with flags and short buffers. */
+/* Every way to read and write a frame, with flags and short buffers. */
 #include "check.h"
 
 static int can0, can1;

@@ -1,5 +1,5 @@
-/* The common part of the C programs of test_run_c.py. They are ordinary programs with CAN sockets, without code for
- * canbusd. A failed check prints its place and ends the program with status 1. */
+/* Macros and functions that the C programs of test_run_c.py share. The programs are ordinary programs with CAN sockets,
+ * without code for canbusd. A failed check prints its file and line, and ends the program with status 1. */
 #ifndef CHECK_H
 #define CHECK_H
 
@@ -48,7 +48,7 @@
         }                                                                                                          \
     } while (0)
 
-/* How many milliseconds to wait for a frame that must come, on any machine. */
+/* How many milliseconds to wait for a frame that must arrive. It is enough on any machine. */
 #define PATIENCE 20000
 /* How many milliseconds to wait for unwanted frames. */
 #define QUIET 100
@@ -88,7 +88,7 @@ static inline void send_numbered(int fd, canid_t id, unsigned number) {
     CHECK(write(fd, &frame, sizeof frame) == sizeof frame);
 }
 
-/* Sends a numbered frame, and tries again as long as the transmit queue is full. */
+/* Sends a numbered frame. Tries again as long as the transmit queue is full. */
 static inline void send_patiently(int fd, canid_t id, unsigned number) {
     struct can_frame frame = frame_of(id, number);
     while (write(fd, &frame, sizeof frame) != sizeof frame) {

@@ -1,6 +1,6 @@
-/* A thread that blocks SIGTERM holds a lock while it waits for room that never comes, as QEMU's CPU threads do with
- * --wait. Its first write fails after a second, and its later writes fail at once. The signal handler of another thread
- * ends the program. Built with -pthread. */
+/* A thread that blocks SIGTERM holds a lock while it waits for room in a queue that stays full, as QEMU's CPU threads
+ * do with --wait. Its first write fails after a second, and its later writes fail at once. The signal handler of
+ * another thread ends the program. Built with -pthread. */
 #include "check.h"
 #include <pthread.h>
 

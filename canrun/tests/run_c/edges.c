@@ -111,7 +111,7 @@ static void pointers(void) {
     CHECK(close(fd) == 0 && close(writer) == 0);
 }
 
-/* Checks which argument is tested first if several are wrong, or if there is nothing to do. */
+/* Checks which argument is tested first if several are wrong, and what happens if there is nothing to do. */
 static void order_of_arguments(void) {
     int fd = bound("can1"), writer = bound("can0"), one = 1;
     struct can_frame frame;
@@ -140,7 +140,7 @@ static void order_of_arguments(void) {
     CHECK(close(fd) == 0 && close(writer) == 0);
 }
 
-/* A filter for 11-bit identifiers ignores the other bits (can_rcv_list_find of net/can/af_can.c). */
+/* A filter for 11-bit identifiers ignores the other bits (see can_rcv_list_find in net/can/af_can.c). */
 static void filters(void) {
     int fd = bound("can1"), writer = bound("can0");
     struct can_filter filter = {0x12345123, 0xDFFFFFFF};
@@ -209,7 +209,7 @@ static void times(void) {
     CHECK(write(fd, &(struct head){.opcode = RX_READ, .can_id = 0x123}, sizeof sent.head) == sizeof sent.head);
     CHECK(comes(fd, PATIENCE) && read(fd, &shown, sizeof shown) == ONE);
     CHECK(shown.head.opcode == RX_STATUS && shown.head.count == 0);
-    /* RX_FILTER_ID needs no frame, whichever value nframes has. */
+    /* RX_FILTER_ID requires no frame, whatever the value of nframes is. */
     sent.head = (struct head){RX_SETUP, RX_FILTER_ID, 0, {0, 0}, {0, 0}, 0x124, 1};
     CHECK(write(fd, &sent, sizeof sent.head) == sizeof sent.head);
     CHECK(close(fd) == 0);

@@ -1,4 +1,4 @@
-/* Each errno that net/can/af_can.c and raw.c of the kernel return. */
+/* Every errno that net/can/af_can.c and raw.c of the kernel return. */
 #include "check.h"
 #include <linux/sockios.h>
 

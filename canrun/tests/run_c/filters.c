@@ -1,5 +1,5 @@
-/* Filters with the rule of linux/can.h: received & mask == id & mask, inverted by CAN_INV_FILTER. Some filter lists are
- * too long for one message to the server. */
+/* Filters follow the rule in linux/can.h: received & mask == id & mask, inverted by CAN_INV_FILTER. Some filter lists
+ * are too long for one message to the server. */
 #include "check.h"
 
 #define MANY 200
@@ -51,7 +51,7 @@ static void many(bool is_joined) {
     }
     set(reader, CAN_RAW_JOIN_FILTERS, is_joined);
     use(filters, MANY);
-    /* The frame is sent on another interface, and the filters do not let it in again. */
+    /* The frame is sent on another interface of the bus, and the filters drop it when it comes back. */
     struct sockaddr_can to = address_of("can0");
     struct can_frame frame = {.can_id = is_joined ? filters[0].can_id & ~CAN_INV_FILTER : 0x7FF};
     CHECK(sendto(reader, &frame, sizeof frame, 0, (struct sockaddr *)&to, sizeof to) == sizeof frame);

@@ -1,5 +1,5 @@
-/* A socket survives fork, dup, exec and SCM_RIGHTS, and ends when its last copy is closed. With a number as its
- * argument, this program is the one that inherits that descriptor. */
+/* A socket survives fork, dup, exec and SCM_RIGHTS, and ends when its last copy is closed. If this program is run with
+ * a number as its argument, it has inherited the descriptor with that number. */
 #include "check.h"
 
 static void send_descriptor(int through, int fd) {

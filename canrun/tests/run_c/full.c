@@ -1,5 +1,5 @@
-/* A transmit queue of 10 frames on a bus that sends one frame a second: the 12th write, or an earlier one, finds the
- * queue full. With the argument `wait`, no write finds it full. */
+/* A transmit queue of 10 frames on a bus that sends one frame a second: the 12th write or an earlier one fails because
+ * the queue is full. With the argument `wait`, no write fails. */
 #include "check.h"
 
 int main(int count, char **words) {

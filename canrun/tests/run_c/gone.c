@@ -1,5 +1,5 @@
-/* The server ends while a read waits, as if the device was unregistered. The read returns ENODEV, and writes return
- * ENXIO. The program prints a word when the server should end. */
+/* The server ends while a read waits, as if the device were unregistered. The read fails with ENODEV, and writes fail
+ * with ENXIO. The program prints a word when the server should end. */
 #include "check.h"
 
 int main(void) {

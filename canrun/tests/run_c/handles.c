@@ -1,5 +1,5 @@
-/* Unusual calls: functions found through a handle of the C library, and a netlink request in libsocketcan's form, which
- * expects a reply that is not an error. */
+/* Unusual calls: functions that are found through a handle of the C library, and a netlink request in the form that
+ * libsocketcan uses, whose reply must not be an error. */
 #include "check.h"
 #include <dlfcn.h>
 #include <linux/rtnetlink.h>

@@ -1,4 +1,5 @@
-/* Sixteen interfaces: if_nameindex lists all of them, and a socket on all interfaces receives from each. */
+/* Sixteen interfaces: if_nameindex lists all of them, and a socket on all interfaces receives frames from each of them.
+ */
 #include "check.h"
 
 int main(void) {

@@ -10,7 +10,7 @@ static void count(int number) {
     signals++;
 }
 
-/* Receives a message with its address, which the kernel's simple read cannot return. */
+/* Receives a message and its address, which a plain read can't return. */
 static bool receive(int fd, unsigned expected) {
     struct can_frame frame;
     struct sockaddr_can from;

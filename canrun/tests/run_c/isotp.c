@@ -1,4 +1,4 @@
-/* CAN_ISOTP: the frames of ISO 15765-2 in both directions, and each errno. A raw socket at the other end plays the
+/* CAN_ISOTP: the frames of ISO 15765-2 in both directions, and every errno. A raw socket at the other end plays the
  * peer. */
 #include "isotp.h"
 
@@ -84,7 +84,7 @@ static void several_frames(void) {
     SAYS("\x22"
          "defghij");
     reads(fd, "0123456789abcdefghij", 20);
-    /* A frame with a wrong sequence number, and frames that stop too early. */
+    /* A frame with a wrong sequence number, and a message whose frames stop too early. */
     SAYS("\x10\x14"
          "012345");
     SEES("\x30\0\0");
@@ -150,8 +150,8 @@ static void extended(void) {
     CHECK(close(fd) == 0);
 }
 
-/* Two sockets and 8,000 bytes, which need a length of 32 bits. The whole message is sent although its socket is closed
- * before. */
+/* Sends 8,000 bytes between two sockets, which requires a 32-bit length. The whole message is sent although its socket
+ * is closed before the end. */
 static void long_messages(bool is_fd) {
     static char data[8000];
     int sender = made(), receiver = made();

@@ -1,4 +1,4 @@
-/* The common part of the CAN_ISOTP programs: a raw socket at the other end that plays the peer. */
+/* Functions that the CAN_ISOTP programs share: a raw socket at the other end plays the peer. */
 #ifndef ISOTP_TEST_H
 #define ISOTP_TEST_H
 

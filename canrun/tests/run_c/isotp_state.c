@@ -28,7 +28,7 @@ static uint32_t epolled(int fd, uint32_t events) {
     return count ? event.events : 0;
 }
 
-/* Checks the events of a socket that has an error. `more` is POLLIN if a message came later, and otherwise 0. */
+/* Checks the events of a socket that has an error. `more` is POLLIN if a message arrived later, and otherwise 0. */
 static void has_error(int fd, short more) {
     fd_set readable, writable;
     FD_ZERO(&readable);
@@ -118,7 +118,7 @@ static void fault(const char *control, size_t length, int error) {
 }
 #define FAULT(bytes, error) fault(bytes, sizeof(bytes) - 1, error)
 
-/* The error of a received message becomes the socket's error. Data that came before stay readable. */
+/* The error of a received message becomes the socket's error. Data that arrived before stay readable. */
 static void received_fault(void) {
     int fd = made();
     CHECK(bind_isotp(fd, RX, TX) == 0);
@@ -205,7 +205,7 @@ static void closing_last(void) {
         clock_gettime(CLOCK_MONOTONIC, &before);
         CHECK(close(fd) == 0);
         clock_gettime(CLOCK_MONOTONIC, &after);
-        /* No flow control frame comes, so the message ends one second after its first frame. */
+        /* No flow control frame arrives, so the message fails one second after its first frame. */
         CHECK(after.tv_sec - before.tv_sec + (after.tv_nsec - before.tv_nsec) / 1e9 > 0.3);
         _exit(0);
     }

@@ -1,5 +1,5 @@
 /* CAN_J1939: long messages between two interfaces, many messages at once, threads, processes, and a wait for the error
- * queue as in j1939cat. The arguments are the length of a message, and how often each wait is tried. */
+ * queue as in j1939cat. The arguments are the length of a message, and the number of tries for each wait. */
 #include "check.h"
 #include <linux/can/j1939.h>
 #include <linux/errqueue.h>
@@ -30,7 +30,7 @@ static struct sockaddr_can to(uint8_t address) {
     return can;
 }
 
-/* Makes message k of a sender. The length and the bytes depend on both numbers. */
+/* Fills in message k of a sender. The length and the bytes depend on `sender` and k. */
 static size_t make(unsigned char *data, unsigned sender, unsigned k) {
     size_t length = 2 + (sender * 37 + k * 13) % 200;
     for (size_t i = 0; i < length; i++) {
@@ -109,7 +109,7 @@ static void from_processes(void) {
     CHECK(close(ecu) == 0 && close(fd) == 0);
 }
 
-/* ---- a long message, sent in the way of j1939cat ---- */
+/* ---- a long message, sent as j1939cat sends it ---- */
 
 static void turn_notices_on(int fd) {
     int on = 1, stamps = SOF_TIMESTAMPING_SOFTWARE | SOF_TIMESTAMPING_TX_ACK | SOF_TIMESTAMPING_TX_SCHED;
@@ -117,7 +117,7 @@ static void turn_notices_on(int fd) {
     CHECK(setsockopt(fd, SOL_SOCKET, SO_TIMESTAMPING, &stamps, sizeof stamps) == 0);
 }
 
-/* Takes an entry from the error queue. Returns the number of its message, or 0. */
+/* Reads an entry from the error queue. Returns the number of its message, or 0 if there is no entry. */
 static unsigned take_notice(int fd) {
     char control[300];
     struct msghdr message = {.msg_control = control, .msg_controllen = sizeof control};
@@ -197,7 +197,7 @@ static void wait_once(unsigned k) {
     CHECK(close(fd) == 0 && close(ecu) == 0);
 }
 
-/* An epoll that waits for messages also reports an entry of the error queue. */
+/* An epoll descriptor that waits for messages also reports an entry in the error queue. */
 static void epolled(void) {
     int fd = node("can0", TESTER), epoll = epoll_create1(0);
     struct epoll_event event = {.events = EPOLLIN, .data.fd = fd};

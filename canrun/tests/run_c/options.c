@@ -1,4 +1,4 @@
-/* Each option of linux/can/raw.h: its default, the lengths that it accepts, and the result of getsockopt. Also options
+/* Every option of linux/can/raw.h: its default, the lengths that it accepts, and the result of getsockopt. Also options
  * of SOL_SOCKET. */
 #include "check.h"
 

@@ -1,5 +1,6 @@
-/* A reader with a small SO_RCVBUF that does not read loses frames. SO_RXQ_OVFL counts them, so that received and lost
- * frames together are all sent frames. A reader that has not set SO_RCVBUF loses none, because the server has room. */
+/* A socket with a small SO_RCVBUF that is not read loses frames. SO_RXQ_OVFL counts the lost frames. Together with the
+ * received frames they are all the frames that were sent. A socket without SO_RCVBUF loses none, because the server has
+ * room for them. */
 #include "check.h"
 
 #define FRAMES 20000

@@ -1,5 +1,5 @@
-/* Frames that a socket itself has sent: which sockets receive them, MSG_CONFIRM, and MSG_DONTROUTE for all frames sent
- * by the same interface (Documentation/networking/can.rst). */
+/* Frames that a socket has sent itself: which sockets receive them, which are marked with MSG_CONFIRM, and
+ * MSG_DONTROUTE for all frames from the same interface (Documentation/networking/can.rst). */
 #include "check.h"
 
 /* How many identical frames the sockets send in turns. */
@@ -14,14 +14,13 @@ static int flags_of_next(int fd, unsigned number) {
     return message.msg_flags;
 }
 
-/* Two sockets of one interface and a socket of another send identical frames. Each frame is attributed to its sender.
- */
+/* Two sockets of one interface and a socket of another send identical frames. Each is attributed to its sender. */
 static void take_turns(int self, int beside, int other) {
     int senders[TURNS];
     for (int i = 0; i < TURNS; i++) {
         senders[i] = i % 3 == 0 ? self : i % 3 == 1 ? beside : other;
         send_patiently(senders[i], 0x7, 7);
-        /* Waits for each frame, so that the frames are sent in this order although the interfaces differ. */
+        /* Waits for each frame to arrive, so that the frames are sent in this order although the interfaces differ. */
         int own = senders[i] == self ? MSG_CONFIRM | MSG_DONTROUTE : senders[i] == beside ? MSG_DONTROUTE : 0;
         CHECK(flags_of_next(self, 7) == own);
         CHECK(senders[i] == beside || flags_of_next(beside, 7) == (own & MSG_DONTROUTE));
@@ -29,8 +28,7 @@ static void take_turns(int self, int beside, int other) {
     }
 }
 
-/* Two sockets send identical frames without waiting for each frame. They are on one interface, which keeps the order.
- */
+/* Two sockets of one interface send identical frames without waiting for each frame. The interface keeps the order. */
 static void take_turns_at_once(int self, int beside) {
     for (int i = 0; i < TURNS; i++) {
         send_patiently(i % 5 < 2 ? self : beside, 0x7, 7);

@@ -115,7 +115,7 @@ static ssize_t by_uring(char *room, size_t length) {
     return result;
 }
 
-/* Each frame comes with its own flags and address, even if the reads of earlier frames bypassed the library. */
+/* Each frame is returned with its own flags and address, even if the reads of earlier frames bypassed the library. */
 static void notes_are_right(void) {
     struct sockaddr_can from;
     char data[72];

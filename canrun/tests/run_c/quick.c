@@ -1,4 +1,4 @@
-/* Frames of many sockets, processes and threads at once. Each socket is written often enough to get quick writes.
+/* Frames from many sockets, processes and threads at once. Every socket has enough writes to be given quick writes.
  * Duplicated and reused descriptor numbers change nothing. Built with -pthread. */
 #include "check.h"
 #include <pthread.h>
@@ -33,7 +33,7 @@ static void *write_some(void *number) {
     return NULL;
 }
 
-/* Writes from more threads than a socket has places for replies. */
+/* Writes from more threads than a socket has slots for replies. */
 static void write_by_threads(void) {
     unsigned numbers[THREADS] = {0};
     pthread_t threads[THREADS];

@@ -1,5 +1,5 @@
-/* Features that few programs use: results of ioctl and getsockopt, and CAN_ISOTP options that are truncated, refused or
- * applied to each frame. */
+/* Features that few programs use: results of ioctl and getsockopt, and CAN_ISOTP options that are truncated, refused,
+ * or applied to every frame. */
 #include "isotp.h"
 #include <linux/sockios.h>
 
@@ -41,7 +41,7 @@ static void lengths(void) {
     CHECK(close(fd) == 0);
 }
 
-/* All frames of a transfer have the flags of its link, including flow control frames. */
+/* All frames of a transfer have the flags in its link layer options, including flow control frames. */
 static void bit_rate_switch(void) {
     int fd = made();
     struct can_isotp_ll_options link = {CANFD_MTU, 64, CANFD_BRS};

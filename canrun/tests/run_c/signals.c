@@ -1,5 +1,5 @@
-/* With a signal every millisecond, each write has exactly one result, and no frame is lost or duplicated. An
- * interrupted read returns EINTR, and a thread that waits in a read can be cancelled. Built with -pthread. */
+/* With a signal every millisecond, every write has exactly one result, and no frame is lost or duplicated. An
+ * interrupted read fails with EINTR, and a thread that waits in a read can be cancelled. Built with -pthread. */
 #include "check.h"
 #include <pthread.h>
 

@@ -1,5 +1,5 @@
-/* Timestamps: each way to request them returns the same timestamp, which is the one of the bus. The program prints it,
- * so that the test can compare it with the server's log. */
+/* Timestamps: every way to request them returns the same timestamp, the one from the bus. The program prints it, so
+ * that the test can compare it with the server's log. */
 #include "check.h"
 #include <linux/net_tstamp.h>
 #include <linux/sockios.h>

@@ -1,13 +1,13 @@
-/* A write waits for room that never comes, because the bus sends one frame a minute and queues only one. The signal in
- * the first argument ends the write, whether its handler has SA_RESTART or not, and in whichever thread the handler
- * runs. After another signal with SA_RESTART the wait continues. The second argument is the number of tries. Built with
- * -pthread. */
+/* A write waits for room in a queue that stays full, because the bus sends one frame a minute and queues only one. The
+ * signal in the first argument ends the write, whether its handler has SA_RESTART or not, and in whichever thread the
+ * handler runs. After another signal with SA_RESTART the wait continues. The second argument is the number of tries.
+ * Built with -pthread. */
 #include "check.h"
 #include <pthread.h>
 #include <sys/mman.h>
 
 static volatile sig_atomic_t is_ended, ticks;
-/* The id of the thread that writes, in memory that the processes share. */
+/* The ID of the thread that writes, in memory that the processes share. */
 static volatile pid_t *writer;
 static int number;
 
@@ -27,7 +27,7 @@ static void *write_in_vain(void *error) {
     *writer = gettid();
     FAILS(write(fd, &frame, sizeof frame), *(int *)error);
     CHECK(is_ended);
-    /* If a program ignores that its handler has run, its next writes do not wait. */
+    /* If a program continues to write after its handler has run, its next writes do not wait. */
     for (int i = 0; i < 20; i++) {
         FAILS(write(fd, &frame, sizeof frame), ENOBUFS);
     }
@@ -37,11 +37,11 @@ static void *write_in_vain(void *error) {
 static int child(bool has_thread, int flags) {
     struct itimerval often = {.it_value = {0, 1000}, .it_interval = {0, 1000}};
     struct sigaction end = {.sa_handler = on_end, .sa_flags = flags}, after;
-    /* If a handler lacks SA_RESTART, the write of the thread that runs it returns EINTR. */
+    /* If the handler lacks SA_RESTART, the write of the thread that runs it fails with EINTR. */
     int error = flags ? ENOBUFS : EINTR;
     struct sigaction tick = {.sa_handler = on_tick, .sa_flags = SA_RESTART};
     CHECK(sigaction(number, &end, NULL) == 0 && sigaction(SIGALRM, &tick, NULL) == 0);
-    /* If two signals come at once, the first one decides whether the kernel restarts the call. */
+    /* If two signals arrive at once, the first one decides whether the kernel restarts the call. */
     CHECK(!flags || setitimer(ITIMER_REAL, &often, NULL) == 0);
     if (has_thread) {
         pthread_t thread;

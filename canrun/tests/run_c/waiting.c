@@ -1,5 +1,5 @@
-/* A signal whose handler lacks SA_RESTART ends a write that waits for room. The transmit queue has one place, and the
- * bus sends one frame a minute. */
+/* A signal whose handler lacks SA_RESTART ends a write that waits for room. The transmit queue has room for one frame,
+ * and the bus sends one frame a minute. */
 #include "check.h"
 
 static void on_signal(int number) {
@@ -18,7 +18,7 @@ int main(void) {
     }
     CHECK(errno == EINTR);
     FAILS(write(fd, &frame, sizeof frame), EINTR);
-    /* Another process is killed while its write waits. Its frame is not in the queue either. */
+    /* Another process is killed while its write waits. The frame of this write is not in the queue either. */
     pid_t child = fork();
     if (child == 0) {
         signal(SIGALRM, SIG_DFL);

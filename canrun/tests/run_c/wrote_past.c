@@ -1,5 +1,6 @@
-/* Writes that do not use the functions of sockets. Each sends exactly the frame, or is refused as by the kernel. If the
- * library does not see a write, a refusal is reported as the socket's error, after a line on standard error. */
+/* Writes that do not use the socket functions. Each write sends exactly its frame, or is refused as the kernel would
+ * refuse it. If the library does not see a write, a refusal is reported as the socket's error, after a line on standard
+ * error. */
 #include "check.h"
 #include <fcntl.h>
 #include <linux/can/isotp.h>
@@ -8,7 +9,7 @@
 #include <sys/uio.h>
 
 static int writer, reader;
-/* Whether the sockets are the kernel's own, which refuse a write at once. */
+/* Whether the sockets are the kernel's own sockets, which refuse a write at once. */
 static bool is_kernel;
 
 static int error_of(int fd) {
@@ -128,7 +129,7 @@ static void unseen(void) {
     get(reader, 0x123, 8);
 }
 
-/* Writes that the library does not see, on sockets of the other protocols. */
+/* Writes that the library does not see, on CAN_ISOTP and CAN_BCM sockets. */
 static void other_protocols(void) {
     struct sockaddr_can address = address_of("can0");
     int manager = socket(PF_CAN, SOCK_DGRAM, CAN_BCM), isotp = socket(PF_CAN, SOCK_DGRAM, CAN_ISOTP);

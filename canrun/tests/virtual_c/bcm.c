@@ -1,5 +1,5 @@
 /* bcm NAME send | watch: `send` runs a cyclic task of the broadcast manager for two seconds. `watch` sets a filter with
- * a timeout and a throttle, and prints the messages until none has come for three seconds. */
+ * a timeout and a throttle, and prints the messages until none has arrived for three seconds. */
 #include "node.h"
 
 #include <linux/can/bcm.h>

@@ -1,6 +1,6 @@
-/* cyclic NAME ID MICROSECONDS COUNT [DATA]: sends frames at exact times, beginning at the next whole second. The data
- * are in hexadecimal digits; without DATA, a frame has its number in two bytes. With SENDS_ONLY the socket has an empty
- * filter. With READS the program reads all frames that arrive in between. */
+/* cyclic NAME ID MICROSECONDS COUNT [DATA]: sends frames at exact times, beginning at the next whole second. DATA is in
+ * hexadecimal digits. Without DATA the data of a frame are its number in two bytes. Built with SENDS_ONLY, the socket
+ * has an empty filter. Built with READS, the program reads all frames that arrive in between. */
 #include "node.h"
 
 #include <poll.h>

@@ -1,5 +1,5 @@
-/* full NAME SECONDS: sends a frame every 10 ms for this many seconds, without reading. Then reads until no frame has
- * come for a second. Prints the numbers of the other node's frames: the first and the last number of each sequence
+/* full NAME SECONDS: sends a frame every 10 ms for SECONDS seconds, without reading. Then reads until no frame has
+ * arrived for a second. Prints the numbers of the other node's frames: the first and the last number of each sequence
  * without a gap. */
 #include "node.h"
 

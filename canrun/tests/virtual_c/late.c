@@ -1,5 +1,5 @@
-/* late MS COUNT: starts itself this many times, one after the other. Each child uses this many milliseconds of
- * processor time before it joins the run. */
+/* late MS COUNT: starts itself COUNT times, one after the other. Each child uses MS milliseconds of processor time
+ * before it joins the run. */
 #include <spawn.h>
 #include <stdio.h>
 #include <stdlib.h>

@@ -1,5 +1,5 @@
-/* many NAME COUNT: opens this many sockets. Each in turn sends a frame, and all others receive it with its timestamp.
- * Does so three times. */
+/* many NAME COUNT: opens COUNT sockets. Each in turn sends a frame, and all others receive it with its timestamp.
+ * Repeats this three times. */
 #include "node.h"
 
 #define MOST 64

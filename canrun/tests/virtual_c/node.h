@@ -23,7 +23,7 @@ __attribute__((unused)) static int open_can(const char *name) {
     return fd;
 }
 
-/* Returns the time this many nanoseconds after `t`. */
+/* Returns the time `t` plus this many nanoseconds. */
 __attribute__((unused)) static struct timespec later(struct timespec t, long nanoseconds) {
     long whole = t.tv_nsec + nanoseconds % SECOND;
     return (struct timespec){t.tv_sec + nanoseconds / SECOND + whole / SECOND, whole % SECOND};

@@ -1,4 +1,4 @@
-/* orphans COUNT: starts this many processes. The parent of each ends at once, and no process waits for it. */
+/* orphans COUNT: starts COUNT processes. The parent of each process ends at once, and no process waits for it. */
 #define _GNU_SOURCE
 #include <signal.h>
 #include <stdio.h>

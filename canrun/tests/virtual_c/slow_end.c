@@ -1,5 +1,5 @@
 /* slow_end: the first thread ends the program a second after the start. The other threads get a processor only if no
- * other program wants it, so they end late, and the program's files stay open until then. */
+ * other program needs it, so they end late, and the program's files stay open until then. */
 #define _GNU_SOURCE
 #include <pthread.h>
 #include <sched.h>

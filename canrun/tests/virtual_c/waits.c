@@ -1,4 +1,4 @@
-/* Makes each kind of wait once. Prints how many milliseconds it took by the clock, and its result. */
+/* Performs every kind of wait once. Prints how many milliseconds each wait took by the clock, and its result. */
 #include "node.h"
 
 #include <poll.h>

@@ -1,4 +1,4 @@
-# The broadcast manager: one socket sends cyclically, another has a timeout and a throttle.
+# The broadcast manager: one socket sends cyclically, and another socket has a timeout and a throttle.
 . "$CASES/server.sh"
 start can0,can1
 aside "$NODES/bcm" can1 watch >"$OUT/watched"; watch=$!

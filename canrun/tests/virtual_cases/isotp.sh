@@ -1,4 +1,4 @@
-# ISO-TP by CAN_ISOTP: messages of 60 and 4,000 bytes, and a message without a receiver.
+# ISO-TP with CAN_ISOTP: messages of 60 and 4,000 bytes, and a message without a receiver.
 . "$CASES/server.sh"
 start can0,can1
 aside candump -ta can0 >"$OUT/candump"; dump=$!

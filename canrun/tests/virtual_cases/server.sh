@@ -1,4 +1,4 @@
-# The cases source this file. It runs a server with a bit rate. Files of the server and of the case are in the folder
+# The cases source this file. It runs a server with a bit rate. The server and the case write their files to the folder
 # OUT.
 set -e
 mkdir "$OUT"
@@ -14,7 +14,8 @@ start() {
     sleep 0.1
 }
 
-# inside PROGRAM .. runs a program with CAN sockets of the server. aside PROGRAM .. does the same in the background.
+# inside PROGRAM .. runs a program whose CAN sockets belong to the server. aside PROGRAM .. does the same in the
+# background.
 inside() {
     "$RUN" "$@" 9>&-
 }

@@ -1,4 +1,4 @@
-# Three cyclic messages. The second instance of the third message has the worst response time. The node with the lowest
+# Three cyclic messages. The second frame of the third message has the worst response time. The node with the lowest
 # priority starts first.
 . "$CASES/server.sh"
 start can0,can1,can2

@@ -103,7 +103,7 @@ static void awaited_sigchld(void) {
     end(sigwaitinfo(&one, NULL));
 }
 
-/* A signal that the kernel itself sends when a descriptor can be read. */
+/* A signal that the kernel itself sends when a descriptor becomes readable. */
 static void awaited_sigio(void) {
     sigset_t one = only(SIGIO);
     int ends[2];

@@ -1,4 +1,4 @@
-/* Waits by syscall(2): calls by number, and waits on a word, futex(2). */
+/* Waits that are called by number with syscall(2), and waits on a word with futex(2). */
 #include "waits.h"
 
 #include <fcntl.h>
@@ -181,7 +181,7 @@ static void *wait_for_bits(void *bits) {
     return bits;
 }
 
-/* The bits select the second thread, although the other one has waited longer. */
+/* The bitset selects the second thread, although the other thread has waited longer. */
 static void by_number_futex_bits(void) {
     pthread_t threads[2];
     for (intptr_t i = 0; i < 2; i++) {
@@ -226,7 +226,7 @@ static void by_number_futex_wake_op(void) {
     note("%u", other);
 }
 
-/* Two words at the same offset in two pages, used by two processes. */
+/* Two processes use two words at the same offset in two pages. */
 static void by_number_futex_shared(void) {
     char *pages = mmap(NULL, 8192, PROT_READ | PROT_WRITE, MAP_SHARED | MAP_ANONYMOUS, -1, 0);
     uint32_t *first = (uint32_t *)pages, *second = (uint32_t *)(pages + 4096);

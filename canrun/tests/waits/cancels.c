@@ -1,4 +1,4 @@
-/* pthread_cancel: waits that it ends, and waits that it does not end. */
+/* pthread_cancel: the waits that it ends, and the waits that it does not end. */
 #include "waits.h"
 
 #include <fcntl.h>
@@ -42,8 +42,8 @@ static void cancel(void *(*wait)(void *)) {
     note("%d", cleaned);
 }
 
-/* Defines a case: a thread with two cleanup handlers makes the wait. A note shows whether the code after the wait runs.
- */
+/* Defines a case: a thread with two cleanup handlers performs the wait. A note shows whether the code after the wait
+ * runs. */
 #define CANCELS(name, wait)                     \
     static void *name##_thread(void *nothing) { \
         pthread_cleanup_push(clean, (void *)1); \

@@ -141,7 +141,7 @@ static void conditions_sem_open(void) {
     end(sem_wait(named));
 }
 
-/* Semaphores at the same offset in two pages: only the waiter of the posted semaphore continues. */
+/* Two semaphores at the same offset in two pages: only the thread that waits for the posted semaphore continues. */
 static void conditions_sem_pages(void) {
     char *pages = mmap(NULL, 8192, PROT_READ | PROT_WRITE, MAP_SHARED | MAP_ANONYMOUS, -1, 0);
     sem_t *first = (sem_t *)pages, *second = (sem_t *)(pages + 4096);

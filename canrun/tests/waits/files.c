@@ -221,7 +221,7 @@ static void files_terminal_line(void) {
     end(poll(&polled, 1, 2 * SOON));
 }
 
-/* The read times out, because no byte comes within a tenth of a second. */
+/* The read times out, because no byte arrives within a tenth of a second. */
 static void files_terminal_timeout(void) {
     int other, fd = terminal(0, 1, &other);
     begin();

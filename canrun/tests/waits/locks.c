@@ -204,7 +204,7 @@ static void *hold_spin(void *nothing) {
     return nothing;
 }
 
-/* The duration of this wait is not printed, because for a thread in a busy loop virtual time passes in steps. */
+/* The duration of this wait is not printed, because virtual time passes in steps while a thread is in a busy loop. */
 static void locks_spin(void) {
     pthread_t thread;
     pthread_spin_init(&spin, 0);

@@ -1,4 +1,4 @@
-/* waits [NAME ..]: makes these waits, or all waits, at the same time. Prints `NAME MILLISECONDS MICROSECONDS RESULT`
+/* waits [NAME ..]: performs these waits, or all waits, at the same time. Prints `NAME MILLISECONDS MICROSECONDS RESULT`
  * for each: the expected duration, the measured duration, and the result. */
 #include "waits.h"
 

@@ -1,4 +1,4 @@
-/* Ways to start processes, and waits until they end. */
+/* Ways to start processes, and waits for their end. */
 #include "waits.h"
 
 #include <fcntl.h>
@@ -46,7 +46,7 @@ static void processes_vfork(void) {
     ends_with_child(pid);
 }
 
-/* Forks by a direct system call, which the C library does not notice. */
+/* Forks with a direct system call, which the C library does not notice. */
 static void processes_raw_fork(void) {
     begin();
     pid_t pid = _Fork();

@@ -1,4 +1,4 @@
-/* Descriptors that read signals, directly and through epolls. */
+/* Descriptors from which signals are read, directly and through epoll descriptors. */
 #include "waits.h"
 
 #include <poll.h>
@@ -19,7 +19,7 @@ static void come_in(int ms) {
     setitimer(ITIMER_REAL, &(struct itimerval){{0, 0}, {0, ms * 1000}}, NULL);
 }
 
-/* Starts another process that sleeps again and again. At each sleep it polls the epoll of the run. */
+/* Starts another process that sleeps repeatedly. At each sleep it polls the epoll descriptor of the run. */
 static void other_process(void) {
     if (fork() == 0) {
         for (int i = 0; i < 20; i++) {

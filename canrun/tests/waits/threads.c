@@ -1,4 +1,4 @@
-/* Waits for the end of threads, barriers, and pthread_once. */
+/* Waits for the end of threads, waits at barriers, and pthread_once. */
 #include "waits.h"
 
 #include <pthread.h>

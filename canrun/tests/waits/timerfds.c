@@ -1,4 +1,4 @@
-/* Timers that programs read, and their descriptors: copies, children, other programs, reused numbers. */
+/* Timers that programs read, and their descriptors: copies, children, other programs, reused descriptor numbers. */
 #include "waits.h"
 
 #include <fcntl.h>

@@ -1,4 +1,4 @@
-/* Timers that send signals or call functions, and clocks. */
+/* Clocks, and timers that send signals or call functions. */
 #include "waits.h"
 
 #include <pthread.h>

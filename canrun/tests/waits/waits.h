@@ -17,7 +17,7 @@
 #include <time.h>
 #include <unistd.h>
 
-/* The awaited event comes after SOON milliseconds. A wait without an event has the timeout SOON, and a wait that must
+/* The awaited event occurs after SOON milliseconds. A wait without an event has the timeout SOON, and a wait that must
  * end early has the timeout LONG. */
 #define SOON 30
 #define LONG 4000
@@ -28,7 +28,7 @@ struct wait {
     void (*call)(void);
 };
 
-/* The tables of waits. Each ends with an entry without a name. */
+/* The tables of waits. Every table ends with an entry without a name. */
 extern const struct wait sleeps[], polls[], signals[], awaited[], signalfds[], cancels[], locks[], conditions[],
     threads[], timers[], timerfds[], files[], queues[], sockets[], processes[], by_number[];
 
@@ -38,17 +38,17 @@ void end(long result);
 /* Ends the measurement of a call that returns its error number. */
 void ends_with(int error);
 
-/* Appends to the printed result. */
+/* Appends to the result that is printed. */
 void note(const char *format, ...) __attribute__((format(printf, 1, 2)));
 
-/* `in_ms` returns a duration, and `after_ms` returns the time after this duration by this clock. */
+/* `in_ms` returns a duration. `after_ms` returns the time after this duration on this clock. */
 struct timespec in_ms(int ms);
 struct timespec after_ms(clockid_t id, int ms);
 
-/* Calls this function in another thread after this many milliseconds. */
+/* Calls this function in another thread after `ms` milliseconds. */
 void later(int ms, void (*call)(void *), void *of);
 
-/* Sends SIGALRM after this many milliseconds. The handler has these flags, and counts the signals. */
+/* Sends SIGALRM after `ms` milliseconds. The handler has these flags, and counts the signals. */
 void alarm_in(int ms, int flags);
 extern volatile sig_atomic_t alarms;
 

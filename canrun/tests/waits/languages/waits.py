@@ -261,7 +261,7 @@ def multiprocessing_queue():
     return result
 
 
-#: This wait reads the clock until its time is over, and virtual time advances in steps.
+#: This wait reads the clock in a loop until its time has passed. Virtual time advances in steps.
 @case(30.01)
 def multiprocessing_join():
     child = multiprocessing.get_context("fork").Process(target=time.sleep, args=(LONG,))
@@ -363,7 +363,7 @@ def asyncio_signal():
 
 
 def main():
-    """Makes all waits at the same time, each in a separate process."""
+    """Performs all waits at the same time, each in a separate process."""
     children = []
     for name, milliseconds, call in CASES:
         reader, writer = os.pipe()
