@@ -250,7 +250,7 @@ def instruction_rows(name, n, folder, programs, words):
             large, small = counts[0][mode, who], counts[1][mode, who]
             row[who] = large
             row[f"{who}_growth"] = large / small if large and small else None
-            # the additional cost of an event, in which the start and the end of the program cancel out
+            # the cost of one more event: the cost of starting and ending the program cancels out
             row[f"{who}_each"] = (large - small) / (sizes[0].events - sizes[1].events) if large and small else None
         rows.append(row)
     for one in sizes:

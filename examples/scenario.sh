@@ -1,5 +1,6 @@
 #!/bin/sh
-# A scenario for virtual time: a server, candump, and a node that sends a frame every second. The output is the same in each run.
+# A scenario for virtual time: a server, candump, and a node that sends a frame every second. The output is the same in
+# every run.
 #
 #     ./canbusd-run --virtual examples/scenario.sh
 #

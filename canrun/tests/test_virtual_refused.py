@@ -128,7 +128,7 @@ int main(int count, char **words) {
 
 @needs_gcc
 def test_calls(tmp_path):
-    """unknown system calls that wait end the run, and so does a child process that shares its parent's memory"""
+    """a run ends if a program makes an unknown system call that waits, or starts a child that shares its memory"""
     (tmp_path / "calls.c").write_text(CALLS, encoding="ascii")
     subprocess.run(["gcc", "-o", str(tmp_path / "calls"), str(tmp_path / "calls.c")], check=True)
     reasons = (

@@ -99,7 +99,7 @@ def test_slots_that_are_not_there(nodes):
     assert (ended.returncode, ended.stdout) == (0, "written\n1767225605\n"), ended
 
 
-#: Adds pipe ends that are always ready to the epoll of the run, and then sleeps.
+#: Adds always-ready pipe ends to the run's epoll descriptor, and then sleeps.
 READY = textwrap.dedent(
     """
     import os, select, time
@@ -120,7 +120,7 @@ READY = textwrap.dedent(
 
 
 def test_epoll_that_is_always_ready():
-    """the run continues even if a program has added descriptors that are always ready to the epoll of the run"""
+    """the run continues even if a program has added always-ready descriptors to the run's epoll descriptor"""
     ended = virtual(sys.executable, "-c", READY)
     assert (ended.returncode, ended.stdout) == (0, "1020.0\n"), ended
 

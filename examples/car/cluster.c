@@ -64,7 +64,7 @@ static void send_state(struct cluster *cluster, int node, int64_t now) {
     };
     cluster->alive = (cluster->alive + 1) & 15;
     if (write(node, &frame, sizeof frame) != sizeof frame) {
-        /* If the interface is bus off, or its queue is full, a later frame may succeed. */
+        /* If the interface is bus off, or its queue is full, a later write may succeed. */
         perror("cluster");
     }
 }

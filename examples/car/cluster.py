@@ -84,7 +84,7 @@ def main(interface):
                 try:
                     node.send(FRAME.pack(STATE, len(data), data))
                 except OSError as fault:
-                    # If the interface is bus off, or its queue is full, a later frame may succeed.
+                    # If the interface is bus off, or its queue is full, a later send may succeed.
                     print(fault, flush=True)
 
 

@@ -120,7 +120,7 @@ def test_the_cluster_goes_bus_off(canbusd, rest):
 
 
 def test_diagnostics_under_faults(canbusd, rest):
-    """although frames of the answer are destroyed, the answer arrives complete"""
+    """the whole answer arrives, although some of its frames are destroyed"""
     with canbusd.isotp("tester", tx=0x7E0, rx=0x7E8) as tester:
         canbusd.inject(Faults().next(2, id=0x7E8, skip=1).destroyed())
         tester.send(b"\x22\xf1\x90")

@@ -1,7 +1,7 @@
 """A gateway.
 
-A server can have several buses, and a gateway has an interface on each. This gateway forwards frames with an identifier
-below 200.
+A server can have several buses, and a gateway has an interface on each of them. This gateway forwards frames with an
+identifier below 200.
 """
 
 import can

@@ -1,7 +1,7 @@
 """A Go node.
 
 Go programs make system calls without the C library, as statically linked programs do. With `static=True` their CAN sockets
-are nevertheless those of the server. The node of examples/go answers each frame 0x123.
+are nevertheless those of the server. The node in examples/go answers every frame 0x123.
 """
 
 import shutil

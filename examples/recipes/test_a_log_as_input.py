@@ -1,8 +1,8 @@
 """A log as input.
 
 python-can reads a candump log, and `can.MessageSync` returns each frame when it is due, so that the frames are sent with
-their original timing. `send_many` would read the whole log first, and send all frames as fast as the bus allows. Here all frames
-are sent on one interface; candump2bench keeps the interface of each frame.
+their original timing. `send_many` would read the whole log first, and send all frames as fast as the bus allows. Here
+all frames are sent on one interface; candump2bench keeps the interface of each frame.
 """
 
 import can

@@ -141,7 +141,7 @@ void selected(int fd);
 void watch(int fd, unsigned events);
 /* Checks that the watched descriptor gets an event, however long it takes, or that it gets none. */
 void watched(bool is_expected);
-/* Waits for this many milliseconds. Only for cases in which time must pass. */
+/* Waits for this many milliseconds. To be used only in cases in which time must pass. */
 void pass(int milliseconds);
 /* `signals` and `signals_of` install a handler for SIGALRM, or for another signal, with these flags. `soon` sends
  * SIGALRM in 50 ms. `caught` prints how many signals arrived. */

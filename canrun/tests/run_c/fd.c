@@ -1,4 +1,4 @@
-/* FD frames: their receivers, their lengths, and the sizes of reads. */
+/* FD frames: which sockets receive them, their lengths, and the sizes of reads. */
 #include "check.h"
 
 int main(void) {

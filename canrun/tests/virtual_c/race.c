@@ -1,6 +1,6 @@
 /* race: two threads of a node each take an identifier for a request every 10 ms, without a lock. The identifiers are
- * unique only if no thread takes one while another is between reading and incrementing the number. Prints the first
- * identifier that was given out twice. */
+ * unique only if no thread takes one while the other thread is between its read and its increment of the counter.
+ * Prints the first identifier that was given out twice. */
 #define _GNU_SOURCE
 #include <pthread.h>
 #include <stdio.h>

@@ -1,5 +1,5 @@
 # An ordinary test file that uses the fixture. The case keeps the files of each test, and the report. With jitter some
-# tests may fail, because their waits are longer than they allow.
+# tests may fail, because their waits take longer than the tests allow.
 mkdir "$OUT"
 cp "$CASES/tests_of_a_node.py" "$OUT/test_node.py"
 cd "$OUT"
