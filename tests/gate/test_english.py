@@ -1,4 +1,5 @@
-"""The English of the documents, as far as a program can judge it: short sentences, subjects that are nouns, and few lines."""
+"""Checks the English of the documents, as far as a program can: short sentences, subjects that are nouns, and documents
+that are not too long."""
 
 import os
 import re

@@ -12,7 +12,7 @@ import pytest
 from serving import program
 from test_docs import Clone, needs_port
 
-# Each test has its own mounts and processes, which end with its command.
+# Each test has separate mounts and processes, which end when the command of the test ends.
 ENTER = 'mount -t proc proc "$0/proc" && mount --rbind /dev "$0/dev" && exec chroot "$0" "$@"'
 
 

@@ -40,7 +40,7 @@ def run_line(line, text="", **more):
 
 
 def run_bytes(line, text):
-    """Does the same as run_line, but each read of the input returns only one byte."""
+    """Runs the program as run_line does, but each read of the input returns only one byte."""
     ours, theirs = socket.socketpair(socket.AF_UNIX, socket.SOCK_SEQPACKET)
     words = [program(), *line.split()]
     with subprocess.Popen(words, stdin=theirs, stdout=subprocess.PIPE, stderr=subprocess.PIPE, text=True) as running:

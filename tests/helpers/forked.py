@@ -17,7 +17,7 @@ import traceback
 from canbusd.__main__ import main
 from canbusd._words import COMMANDS, PROGRAM
 
-#: After this many seconds, SIGALRM ends a command.
+#: The timeout in seconds for a command. SIGALRM ends a command that takes longer.
 LONGEST = 60
 
 
@@ -85,7 +85,7 @@ def become(begin, words):
 
 
 def take_streams(*streams):
-    """Makes these files or file descriptors the standard streams."""
+    """Uses these files or file descriptors as the standard streams."""
     for number, stream in enumerate(streams):
         os.dup2(stream if isinstance(stream, int) else stream.fileno(), number)
     sys.stdin, sys.stdout = open(0, closefd=False), open(1, "w", closefd=False)

@@ -65,7 +65,7 @@ class Case:
 
 
 class Maker:
-    """Makes cases from a source of random numbers."""
+    """Creates cases from a source of random numbers."""
 
     def __init__(self, seed, has_newer=True):
         self.random = random.Random(seed)

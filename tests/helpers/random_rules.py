@@ -53,7 +53,7 @@ class Case:
 
 
 class RuleMaker:
-    """Makes rules and cases from a source of random numbers."""
+    """Creates rules and cases from a source of random numbers."""
 
     def __init__(self, seed):
         self.random = random.Random(seed)

@@ -1,5 +1,5 @@
 /* Makes each read from standard input, which is a file, return at most one byte (LD_PRELOAD), as test_bench_lines.py
-   needs it. */
+ * needs it. */
 #include <sys/syscall.h>
 #include <unistd.h>
 

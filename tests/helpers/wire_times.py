@@ -24,7 +24,7 @@ IDLE = 11
 
 
 class Ending(enum.Enum):
-    """How an attempt ends. After a fault, the error flag comes after the data or after the CRC."""
+    """How an attempt ends. After a fault, the error flag follows either the data or the CRC."""
 
     DONE = enum.auto()
     LAST_BIT = enum.auto()
@@ -38,7 +38,8 @@ ENDINGS = {"done": Ending.DONE, "lastbit": Ending.LAST_BIT, "noack": Ending.NO_A
 
 
 def ending_of(kind: str, verdict: str) -> Ending:
-    """Returns how an attempt with this outcome and this verdict ends. After bit errors and stuff errors the error flag comes early."""
+    """Returns how an attempt with this outcome and this verdict ends. After bit errors and stuff errors the error flag
+    follows the data."""
     early = Ending.AFTER_DATA if verdict.startswith(("global-bit", "local-stuff")) else Ending.AFTER_CRC
     return ENDINGS.get(kind, early)
 

@@ -111,7 +111,7 @@ class Refusing:
 
 
 def within(most):
-    """Returns a function that limits the memory of a child process to this many bytes."""
+    """Returns a function that limits the memory of a child process to `most` bytes."""
     return lambda: resource.setrlimit(resource.RLIMIT_AS, (most, most))
 
 

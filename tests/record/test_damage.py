@@ -132,7 +132,7 @@ def restarted():
 
 
 def with_fd():
-    """Returns a record of FD frames and a classic frame, with sockets that ask for FD frames and a socket that does
+    """Returns a record with FD frames and a classic frame, with sockets that request FD frames and a socket that does
     not."""
     lines = [
         "open 0 256 = socket 0", "open 1 1 = socket 1", "open 1 256 = socket 2", "send 0 123##0 = fd-off",

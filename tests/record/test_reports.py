@@ -221,7 +221,7 @@ def width_of_sixteen(folder):
 
 
 def page_in_browser(page, step):
-    """Opens the page in a browser with this step chosen; returns the text of the page's elements."""
+    """Opens the page in a browser with this step selected; returns the text of the page's elements."""
     done = call(
         BROWSER,
         "--headless",

@@ -330,8 +330,8 @@ class Counted:
 
 @pytest.mark.parametrize("frames", [40_000, pytest.param(None, marks=pytest.mark.slow, id="--frames")])
 def test_load_with_faults(request, tmp_path, frames):
-    """Nothing is lost without being counted by 64 sessions on 4 buses, with faults of every kind and sessions that
-    break off and connect again."""
+    """With 64 sessions on 4 buses, faults of every kind, and sessions that break off and connect again, nothing is lost
+    without being counted."""
     frames, seed = frames or request.config.getoption("frames"), request.config.getoption("seed")
     buses = []
     for bus in range(BUSES):

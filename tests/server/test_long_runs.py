@@ -70,8 +70,8 @@ def test_words_that_are_refused(words, tmp_path):
 
 @pytest.mark.parametrize("record", ["live", "none"])
 def test_a_folder_that_cannot_be_written(record, tmp_path):
-    """A folder that is missing, is a file, accepts no files, or has a folder in place of the log is refused before the
-    server listens."""
+    """A folder is refused before the server listens if it is missing, is a file, accepts no files, or contains a folder
+    in place of the log."""
     (tmp_path / "file").touch()
     (tmp_path / "can0.log").mkdir()
     for folder in (tmp_path / "none", tmp_path / "file", "/proc", tmp_path):
@@ -533,7 +533,7 @@ def test_files_that_grow_to_a_limit():
     """A file that reaches a size limit ends with a complete line, the server reports how much the file contains, and
     the bus continues."""
     most = 20_000
-    # The limit also applies to the server's standard error, which stays shorter.
+    # The size limit also applies to the server's standard error, which stays below the limit.
     with serving_alone(*LIVE, "--pace", "0", "can0,can1", "car0,car1", preexec_fn=may_grow(most)) as server:
         pair, other = Pair(server), Pair(server, "car0", "car1")
         other.go_on()

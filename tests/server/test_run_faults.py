@@ -633,7 +633,8 @@ def test_a_place_that_takes_no_file(when, kind, tmp_path):
 @pytest.mark.parametrize("when", WHEN)
 @pytest.mark.parametrize("kind", ["rec.faults", "rec.faults.new"])
 def test_links(when, kind, tmp_path):
-    """Links at the names of faults, to a plain file or to nothing, are not followed: the new file replaces them."""
+    """Links at the names of faults files, to a plain file or to nothing, are not followed: the new file replaces the
+    link."""
     others = tmp_path / "others"
     others.write_text("of others\n")
     for target in (others, tmp_path / "nothing"):

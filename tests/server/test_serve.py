@@ -77,8 +77,8 @@ def test_verbose():
 
 
 def test_down_and_up():
-    """An interface that is down reports this, and sends and receives nothing. It comes up by a restart, and the server
-    reports both changes."""
+    """An interface that is down reports this, and neither sends nor receives anything. A restart brings it up, and the
+    server reports both changes."""
     with serving("--verbose", "--pace", "0", "can0,can1") as server:
         can0, can1 = plain(server, "can0"), plain(server, "can1")
         replies = [can0.answer(f"< {words} >") for words in ("down", "status", "send 123 0")]
@@ -221,7 +221,7 @@ def has_ended(client):
 @pytest.mark.parametrize("pieces", ["whole", "byte by byte"])
 @pytest.mark.parametrize("method", ["GET", "POST", "PATCH", "patch", "FOO", "x", "\r\n\r\nGET", " GET"])
 def test_web_page(method, pieces):
-    """An HTTP request with any method puts no frame on a bus. Its connection is closed, and that is reported."""
+    """An HTTP request with any method sends no frame on a bus. Its connection is closed, and that is reported."""
     body = "< open can0 >< rawmode >< send 123 0 >"
     request = f"{method} / HTTP/1.1\r\nHost: 127.0.0.1\r\nContent-Length: {len(body)}\r\n\r\n{body}"
     with serving("--verbose", "can0,can1") as server:
@@ -317,7 +317,7 @@ def test_lengths_of_writes(words, most, tmp_path):
     with serving_alone("--pace", "0", "--txqueue", "100", *words, "can0,can1", env=environment) as server:
         sender, reader = plain(server, "can0"), plain(server, "can1")
         for _ in range(20):
-            # The server reads these messages together, and puts up to 64 frames on the bus before a client gets one.
+            # The server reads these messages together, and sends up to 64 frames on the bus before a client gets one.
             sender.write("< send 123 8 1 2 3 4 5 6 7 8 >" * 100)
             texts = [reader.text() for _ in range(100)]
         server.end()

@@ -359,7 +359,7 @@ class Filling:
         return came, float(taken.split()[-3])
 
     def run(self, seconds: float) -> list[tuple[float, float]]:
-        """Returns the arrival times and timestamps of frames during this many seconds, once the bus is full."""
+        """Returns the arrival times and timestamps of frames during a number of seconds, once the bus is full."""
         self.send(WINDOW)
         begun, arrivals = time.monotonic() + 1, [self.take()]
         while arrivals[-1][0] < begun + seconds:
