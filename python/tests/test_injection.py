@@ -133,8 +133,8 @@ def test_the_rules_on_the_page_of_a_server(tmp_path, when):
         sent(0x123, 2)
         server.inject("next 1 id 124 lastbit")
         can1.inject("next 2 id 124:7FE lastbit\nalways good")
-        # Any of the three rules could have decided the first of these attempts, and either of the remaining two the
-        # second.
+        # All three rules match the first of these attempts, and the first rule decides it. The other two rules match
+        # the attempts after it.
         sent(0x124, 4)
         server.end_rules()
         sent(0x125, 1)
