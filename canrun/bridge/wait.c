@@ -24,7 +24,7 @@ bool wait_for_input(int64_t nanoseconds, bool takes_requests) {
     int news = takes_requests && protocol->is_full ? request_news() : -1;
     bool is_kept = news >= 0 && request_is_kept();
     /* If the other end is closed, poll always reports the socket as ready, even though there are no requests. So the
-     * bridge instead polls the close that is waiting. */
+     * bridge instead polls the descriptor of the pending close. */
     bool is_closing = !takes_requests && program_is_gone();
     polled[0] = (struct pollfd){is_closing ? close_waiter_fd() : PROGRAM, is_closing ? POLLIN : events, 0};
     polled[0].events &= (short)(news >= 0 ? ~POLLIN : ~0);

@@ -6,7 +6,7 @@
 #include <sys/param.h>
 
 static const char DIGITS[] = "0123456789ABCDEF";
-/* words: lengths of FD frames in C */
+/* Written by scripts/words: lengths of FD frames in C */
 static const uint8_t FD_LENGTHS[] = {0, 1, 2, 3, 4, 5, 6, 7, 8, 12, 16, 20, 24, 32, 48, 64};
 /* end of words */
 

@@ -125,7 +125,7 @@ static bool change_word(long word, uint32_t encoded) {
     }
 }
 
-/* ---- words that contain their owner (FUTEX_LOCK_PI) ---- */
+/* ---- futex words that hold the thread ID of their owner (FUTEX_LOCK_PI) ---- */
 
 struct owned {
     long word;

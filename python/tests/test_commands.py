@@ -356,8 +356,8 @@ def test_status_of_a_busy_bus():
     with Server("can0,can1", bitrate=5_000, txqueue=1_000) as server, server.bus("can0") as sender:
 
         def is_full():
-            """Returns whether the status shows a fully loaded bus for the last second. Frames always wait in the queue,
-            but a server that is late skips attempts."""
+            """Returns whether the status shows a fully loaded bus for the last second. The load can be lower although
+            the queue is never empty, because a server that falls behind skips attempts."""
             sender.send_many([message(1, bytes(8))] * (1_000 - sender.stats().waiting))
             status, written, said = call("status", server=server)
             assert (status, said) == (0, "")

@@ -55,7 +55,7 @@ packages_of() {
     sed -n "s/.*apt-get install \([^\`]*\).*/\1/p" "$1" | grep -m 1 -- "$2"
 }
 
-# Runs the first test of README, the test of the guide, the examples, and a client with a server in another window.
+# Runs the first test in the README, the test in the guide, the examples, and a client with a server in a second terminal.
 try_package() {
     block README.md test_bus_off >test_bus_off.py
     block docs/GUIDE.md test_a_frame_that_arrives_twice >test_twice.py

@@ -30,7 +30,7 @@ def needs(*tools):
 
 @functools.lru_cache(maxsize=None)
 def command():
-    """Returns the path of canbusd-run: the value of CANBUSD_RUN, or the program of these sources, which is built if necessary."""
+    """Returns the path of canbusd-run: the value of CANBUSD_RUN, or else a build of these sources, made if necessary."""
     if "CANBUSD_RUN" in os.environ:
         return os.path.abspath(os.environ["CANBUSD_RUN"])
     words = [os.path.join(ROOT, "scripts", "run-program"), "choose"]

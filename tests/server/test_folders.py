@@ -139,7 +139,7 @@ def mode_of(path):
 
 
 def test_the_lock_file_of_a_folder(tmp_path):
-    """The lock file is readable only by its user, and is removed when its server ends."""
+    """Only its owner can read the lock file, and the server removes it at its end."""
     with serving_alone("can0", out=tmp_path) as server:
         assert mode_of(tmp_path / ".canbusd.lock") == 0o600
         server.end()

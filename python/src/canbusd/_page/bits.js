@@ -2,7 +2,7 @@
 // programs.
 
 const lowBits = (count, number) => Array.from({ length: count }, (_, k) => Math.floor(number / 2 ** (count - 1 - k)) % 2);
-// words: lengths of FD frames in JavaScript
+// Written by scripts/words: lengths of FD frames in JavaScript
 const FD_LENGTHS = [0, 1, 2, 3, 4, 5, 6, 7, 8, 12, 16, 20, 24, 32, 48, 64];
 // end of words
 const GENERATORS = { 15: 0x4599, 17: 0x1685B, 21: 0x102899 };
