@@ -1,9 +1,9 @@
 """A J1939 ECU with a fault during a transfer of several packets.
 
-An engine at address 00 sends 38 bytes of trouble codes (FECA) to a service tool at F9, in six packets, which the tool
-acknowledges. In the second transfer all frames from the engine after the first packet are destroyed, until it is bus off.
-Then the tool aborts the transfer with reason 3, a timeout. After a restart the next transfer works. Both nodes use
-CAN_J1939, as on Linux.
+An engine at address 00 sends 38 bytes of trouble codes (FECA) to a service tool at F9, in six packets, which the
+tool acknowledges. In the second transfer all frames from the engine after the first packet are destroyed, until it
+is bus off. Then the tool aborts the transfer with reason 3, a timeout. After a restart the next transfer works.
+Both nodes use CAN_J1939, as on Linux.
 """
 
 import sys
