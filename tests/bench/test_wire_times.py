@@ -306,8 +306,10 @@ def test_random_runs(program: str, request: pytest.FixtureRequest, cases: int, t
     """
     seed = request.config.getoption("seed")
     maker, rng = random_benches.Maker(seed), random.Random(seed)
-    compared = 0
-    for _ in range(max(20, cases // 20)):
+    compared, least = 0, max(20, cases // 20)
+    for number in range(10 * least):
+        if number >= least and compared > 100:
+            break
         case, rates = maker.case(), random_rates(rng)
         case.write_to(tmp_path)
 
