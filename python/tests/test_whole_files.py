@@ -279,6 +279,8 @@ def test_one_that_is_killed_leaves_the_old_log(tmp_path, number):
     child = subprocess.Popen(
         [sys.executable, "-m", "canbusd", "convert", "from.log", "to.log"], cwd=tmp_path, env=environment(),
         stdout=subprocess.PIPE, stderr=subprocess.PIPE,
+        # Under nohup the tests ignore SIGHUP.
+        preexec_fn=lambda: signal.signal(signal.SIGHUP, signal.SIG_DFL),
     )  # fmt: skip
     with open(tmp_path / "from.log", "w", encoding="ascii") as source:
         source.write(LOG)
