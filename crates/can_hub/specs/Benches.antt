@@ -11,8 +11,8 @@ use Rattle.can_hub.specs.declared.bench.Bench.{Bench}
 -- The benches: the parts from which the buses of a hub are made.
 
 module _ {F G : Type 0} where
-  -- A bus can be made from this bench. The configuration is within the limits `Limits`, the blanks and the names match its number
-  -- of interfaces, the names are valid, and a socket holds 1 to 65,536 items.
+  -- A bus can be made from this bench. The configuration is within the limits `Limits`, the blanks and the names match
+  -- its number of interfaces, the names are valid, and a socket holds 1 to 65,536 items.
   pub record IsWithin (Limits : BusConfig → Type 0) (b : Bench F G) : Type 0 where
     pub config : Limits b.config
     pub words : b.blanks.meter.words ≡ b.config.ifaces
@@ -29,8 +29,8 @@ module _ {F G : Type 0} where
   abbrev pub bench_names : List (Bench F G) → List (List (List ℕ))
   bench_names benches = map (λ b. b.names) benches
 
-  -- A hub can be made from these benches. There are 1 to 16 of them, a bus can be made from each, and no two of them share an
-  -- interface name.
+  -- A hub can be made from these benches. There are 1 to 16 of them, a bus can be made from each, and no two of them
+  -- share an interface name.
   pub record MakeHubWithin (Limits : BusConfig → Type 0) (benches : List (Bench F G)) : Type 0 where
     pub some : 1 ≤ length benches
     pub few : length benches ≤ 16
@@ -45,8 +45,8 @@ module _ {F G : Type 0} where
   abbrev pub MakeLongHub : List (Bench F G) → Type 0
   MakeLongHub benches = MakeHubWithin IsOfLongRuns benches
 
-  -- The blanks of each bench have the names that `roll` and `meter` return for the bench's bus number. The first bench has bus
-  -- number n.
+  -- The blanks of each bench have the names that `roll` and `meter` return for the bench's bus number. The first bench
+  -- has bus number n.
   abbrev pub NamedFrom : (ℕ → RollId) → (ℕ → TableId) → ℕ → List (Bench F G) → Type 0
   NamedFrom roll meter n [] = Unit {0}
   NamedFrom roll meter n (b ∷ more) =

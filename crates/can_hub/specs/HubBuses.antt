@@ -11,7 +11,8 @@ use Rattle.can_hub.specs.declared.hub_bus.AnyEnd.TheVariants as end
 
 -- The buses of a hub, which either keep their whole records or are for long runs (own choice).
 
--- The configuration is valid for a hub's bus for long runs: its limit of entries is higher than the limit of any whole record.
+-- The configuration is valid for a hub's bus for long runs: its limit of entries is higher than the limit of any whole
+-- record.
 abbrev pub IsOfLongRuns : BusConfig → Type 0
 IsOfLongRuns c = (max_limit < c.limit) × IsLongConfig c
 
@@ -20,8 +21,8 @@ abbrev pub journal_in : AnyBus → Journal
 journal_in (bus.Whole b) = b
 journal_in (bus.Long b) = journal_of b
 
--- The number of entries that a bus has room for before some must be handed out. For a bus that keeps its whole record, this is the
--- largest usize.
+-- The number of entries that a bus has room for before some must be handed out. For a bus that keeps its whole record,
+-- this is the largest usize.
 abbrev pub places_in : AnyBus → ℕ
 places_in (bus.Whole b) = 18446744073709551615
 places_in (bus.Long b) = places_left b

@@ -52,8 +52,8 @@ abbrev pub socket_room_in : List BusSeen → Option EnteredSeen → ℕ
 socket_room_in buses None = 0
 socket_room_in buses (Some e) = items_on (slice_get buses e.station.number)
 
--- The event that the station carries out. In an open event, the number of items that a socket holds is replaced with the number set
--- by the bus.
+-- The event that the station carries out. In an open event, the number of items that a socket holds is replaced with
+-- the number set by the bus.
 abbrev pub with_socket_room : Event → ℕ → Event
 with_socket_room (event.Open iface asked) room = event.Open iface room
 with_socket_room e room = e
@@ -94,8 +94,8 @@ SomeNamedFull F buses name =
     × IsStationOn buses at
     × HadNoPassLeft F at
 
--- The port enters the station of the bus with this interface name and takes a gauge and a pass. Nothing changes if no bus has the
--- name, if the gauge cannot be allocated, or if no pass is left.
+-- The port enters the station of the bus with this interface name and takes a gauge and a pass. Nothing changes if no
+-- bus has the name, if the gauge cannot be allocated, or if no pass is left.
 abbrev pub Attaches : Type 0 → PortSeen → List ℕ → Result ℕ PortRefusal → PortSeen → Type 0
 Attaches F old name (Ok iface) new =
     (at : StationSeen) × (gauge : Readings) × (pass : PassSeen)
@@ -109,8 +109,8 @@ Attaches F old name (Err (port.Bus refusal.NoMemory)) new = SomeNamed old.buses 
 Attaches F old name (Err port.TooManyPasses) new = SomeNamedFull F old.buses name × (new ≡ old)
 Attaches F old name (Err _) new = ⊥
 
--- A gauge returns the newest publication of an interface's error counters that it has seen, and it never forgets a publication. For
--- an interface that its meter does not have, it returns counters of 0/0.
+-- A gauge returns the newest publication of an interface's error counters that it has seen, and it never forgets a
+-- publication. For an interface that its meter does not have, it returns counters of 0/0.
 abbrev pub GaugeReports : Readings → ℕ → ErrorCounts → Readings → Type 0
 GaugeReports old iface answer new =
     ((iface < old.ifaces)
@@ -125,8 +125,8 @@ ReportsCounters None iface answer new = (answer ≡ at_start) × (new ≡ None)
 ReportsCounters (Some old) iface answer new =
     (gauge : Readings) × GaugeReports old.gauge iface answer gauge × (new ≡ Some (record old { gauge = gauge }))
 
--- The load contains the bit rates of the entered bus, or only zeros if no bus was entered. The definition does not say how busy the
--- bus was.
+-- The load contains the bit rates of the entered bus, or only zeros if no bus was entered. The definition does not say
+-- how busy the bus was.
 abbrev pub ReportsRates : List BusSeen → Option EnteredSeen → BusLoad → Type 0
 ReportsRates buses None answer = answer ≡ no_bus_load
 ReportsRates buses (Some e) answer =
@@ -146,8 +146,8 @@ CountsIface F None iface answer = answer ≡ None
 CountsIface F (Some e) iface answer =
     InSome F e.station (λ held. answer ≡ iface_stats_of held.journal.config held.journal.history iface)
 
--- The reply to adding a rule, in some state of a station whose interfaces have these names; the definition does not say which
--- state. Without names the reply is `NoSocket`.
+-- The reply to adding a rule, in some state of a station whose interfaces have these names; the definition does not say
+-- which state. Without names the reply is `NoSocket`.
 abbrev pub InjectsNamed :
     Type 0 → StationSeen → Option (List (List ℕ)) → List ℕ → Result (Unit {0}) PortRefusal → Type 0
 InjectsNamed F station None rule answer = answer ≡ Err (port.Bus refusal.NoSocket)

@@ -35,8 +35,8 @@ LosesAll {P} step most old p new q =
     (text : List ℕ) × (mid : P) × (is_all : Bool) × GivesItems step most old.dialog.stage p text mid is_all
     × EndsSession step old mid new q
 
--- up to 256 of the waiting items are received and written, and the client accepts all of them; or fewer items are waiting, or the
--- session ends
+-- up to 256 of the waiting items are received and written, and the client accepts all of them; or fewer items are
+-- waiting, or the session ends
 abbrev pub DeliversItems : {P W : Type 0} → (P → (call : Call) → Reply call → P → Type 0) → (W → Option (List ℕ)) → ℕ
     → SessionState → P → W → Option ℕ → SessionState → P → W → Type 0
 DeliversItems step contents waiting old p out (Some n) new q out' =

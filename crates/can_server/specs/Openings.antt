@@ -4,9 +4,9 @@ use Rattle.can_proto.specs.Words.{is_blank}
 use Rattle.can_server.specs.declared.opening.Opening.{Opening}
 use Rattle.can_server.specs.declared.opening.Opening.TheVariants.{Blank, Word, Client, Stranger}
 
--- The first bytes of a connection: either a client may begin with them or no client does (closing such a connection is own choice).
--- An HTTP request begins with a method and a space (RFC 9112, 3), and so does an RTSP request (RFC 7826). TLS begins with the byte
--- 22 (RFC 8446, 5.1).
+-- The first bytes of a connection: either a client may begin with them or no client does (closing such a connection is
+-- own choice). An HTTP request begins with a method and a space (RFC 9112, 3), and so does an RTSP request (RFC 7826).
+-- TLS begins with the byte 22 (RFC 8446, 5.1).
 
 -- whether more bytes are needed to decide (own choice)
 abbrev pub is_undecided : Opening → Bool
@@ -15,8 +15,8 @@ is_undecided Word = true
 is_undecided Client = false
 is_undecided Stranger = false
 
--- the state after one more byte. `<` begins the first message. Before the first message, a control byte that is not a blank is not
--- allowed, nor is a blank after other bytes (own choice).
+-- the state after one more byte. `<` begins the first message. Before the first message, a control byte that is not a
+-- blank is not allowed, nor is a blank after other bytes (own choice).
 abbrev pub after_byte : Opening → ℕ → Opening
 after_byte Client b = Client
 after_byte Stranger b = Stranger

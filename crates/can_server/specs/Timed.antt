@@ -25,8 +25,8 @@ abbrev pub after_attempt : Verdict → Attempt → Schedule → Schedule
 after_attempt v (attempt.Tried t) s = after_tried t.frame t.class v s
 after_attempt v (attempt.Idle restarted) s = after_idle s
 
--- an attempt follows a schedule: the time of the attempt is the time at which its frame ends. The schedule advances by the length
--- of the attempt, which depends on the class and the verdict of the attempt.
+-- an attempt follows a schedule: the time of the attempt is the time at which its frame ends. The schedule advances by
+-- the length of the attempt, which depends on the class and the verdict of the attempt.
 abbrev pub GoesBy : Schedule → Verdict → Attempt → Schedule → Type 0
 GoesBy old v (attempt.Tried t) new =
     (t.moment ≡ next_moment (Some t.frame) old) × (new ≡ after_tried t.frame t.class v old)
@@ -46,8 +46,8 @@ pub record Driven (F : Type 0) : Type 0 where
 abbrev pub moment_for : {F : Type 0} → Driven F → ℕ
 moment_for d = head_moment d.schedule (next_try d.held.journal)
 
--- if there is a frame to send or a restart to wait for, the driver makes an attempt at the scheduled time, and the schedule
--- advances
+-- if there is a frame to send or a restart to wait for, the driver makes an attempt at the scheduled time, and the
+-- schedule advances
 abbrev pub Makes : {F : Type 0} → (F → VerdictMap) → Driven F → Driven F → Type 0
 Makes verdicts old new =
     (a : Attempt)
@@ -66,8 +66,8 @@ abbrev pub MakesAll : {F : Type 0} → (F → VerdictMap) → ℕ → Driven F �
 MakesAll verdicts zero old new = new ≡ old
 MakesAll {F} verdicts (suc n) old new = (mid : Driven F) × MakesAll verdicts n old mid × Makes verdicts mid new
 
--- while it holds the lock once, the driver makes up to 64 attempts, and at least one if there is a frame to send or a restart to
--- wait for; or the station refuses the next attempt
+-- while it holds the lock once, the driver makes up to 64 attempts, and at least one if there is a frame to send or a
+-- restart to wait for; or the station refuses the next attempt
 abbrev pub MakesDue : {F : Type 0} → (F → VerdictMap) → Stepped → Driven F → Driven F → Type 0
 MakesDue {F} verdicts stepped.Refused old new =
     (n : ℕ) × (mid : Driven F) × (n < 64) × MakesAll verdicts n old mid × IsAttemptRefused verdicts mid new

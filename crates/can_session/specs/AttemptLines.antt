@@ -18,7 +18,8 @@ use Rattle.can_event.specs.declared.attempt.Tried.{Tried}
 
 -- The lines that the bench prints for attempts (own choice).
 
--- the names of the interfaces in a set, in ascending order of interface number; the first name in the list is for interface `i`
+-- the names of the interfaces in a set, in ascending order of interface number; the first name in the list is for
+-- interface `i`
 abbrev pub names_from : ℕ → List (List ℕ) → IfaceSet → List (List ℕ)
 names_from i [] set = []
 names_from i (name ∷ names) set =
@@ -34,7 +35,8 @@ abbrev pub member_text : Bool → List ℕ → List ℕ
 member_text true name = name
 member_text false name = 44 ∷ name
 
--- the names with indices from `first` to below `end`, joined by commas, with a comma before them unless they begin the list
+-- the names with indices from `first` to below `end`, joined by commas, with a comma before them unless they begin the
+-- list
 abbrev pub run_text : Bool → List (List ℕ) → ℕ → ℕ → List ℕ
 run_text is_first names first end = member_text is_first (join_with_byte 44 (slice_range names first end))
 
@@ -74,7 +76,8 @@ when_text (Some moment) = codes " at " ++ moment_text moment
 abbrev pub after_text : List (List ℕ) → Option ℕ → IfaceSet → List ℕ
 after_text names when restarted = restarted_text names restarted ++ when_text when
 
--- a verdict in the words of a script; the interfaces with a local fault are named in ascending order of interface number
+-- a verdict in the words of a script; the interfaces with a local fault are named in ascending order of interface
+-- number
 abbrev pub verdict_text : List (List ℕ) → Verdict → List ℕ
 verdict_text names Good = codes "good"
 verdict_text names (Global global.Bit) = codes "global bit"
@@ -110,8 +113,8 @@ tried_line names when decision t = whose_text names t ++ ending_text names t ++ 
 abbrev pub idle_line : List (List ℕ) → Option ℕ → IfaceSet → List ℕ
 idle_line names when restarted = codes "idle" ++ end_text names when None restarted
 
--- the line of an attempt, with its moment, fault and rule if they are to be shown. A full record is the only refusal, and the line
--- for it has none of these.
+-- the line of an attempt, with its moment, fault and rule if they are to be shown. A full record is the only refusal,
+-- and the line for it has none of these.
 abbrev pub bench_attempt_line : List (List ℕ) → Option ℕ → Option Decision → Result Attempt Refusal → List ℕ
 bench_attempt_line names when decision (Ok (attempt.Tried t)) = tried_line names when decision t
 bench_attempt_line names when decision (Ok (attempt.Idle restarted)) = idle_line names when restarted

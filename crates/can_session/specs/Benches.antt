@@ -39,8 +39,8 @@ use Rattle.can_session.specs.AttemptLines.{bench_attempt_line}
 
 -- What each line of the bench's input does, and what the bench prints (own choice).
 
--- the state of a bench: the receive queue capacity of its sockets, whether the lines of attempts show faults, the bus, the sessions
--- by number, the current moment, and which sessions were fed bytes outside messages
+-- the state of a bench: the receive queue capacity of its sockets, whether the lines of attempts show faults, the bus,
+-- the sessions by number, the current moment, and which sessions were fed bytes outside messages
 pub record BenchState : Type 0 where
   pub capacity : ℕ
   pub shows_faults : Bool
@@ -136,8 +136,8 @@ abbrev pub said_decision : Bool → Decision → Option Decision
 said_decision true decision = Some decision
 said_decision false decision = None
 
--- the bench after time passed for an attempt with this verdict and outcome. `waits` says whether an interface waited for its
--- restart before the attempt. A refused attempt takes no time.
+-- the bench after time passed for an attempt with this verdict and outcome. `waits` says whether an interface waited
+-- for its restart before the attempt. A refused attempt takes no time.
 abbrev pub passed : Bool → Verdict → Result Attempt Refusal → BenchState → BenchState
 passed waits v (Ok a) b = record b {
   moment = moment_left b.moment (schedule_left b.moment waits v a b.bus.schedule);
@@ -197,8 +197,8 @@ pub record AreMade (verdicts : VerdictMap) (moment : ℕ) (b : BenchState) (text
   pub ends : NoneFollows verdicts moment mid last after
   pub said : text ≡ before ++ last
 
--- the bench makes all attempts that are due before this moment, and then sets its current moment to this one. The bus has bit
--- rates, and the moment that was set before is not later.
+-- the bench makes all attempts that are due before this moment, and then sets its current moment to this one. The bus
+-- has bit rates, and the moment that was set before is not later.
 pub record IsRun (verdicts : VerdictMap) (moment : ℕ) (b : BenchState) (text : List ℕ)
     (after : BenchState) : Type 0 where
   pub timed : b.bus.schedule ≢ None

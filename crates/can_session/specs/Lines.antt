@@ -36,9 +36,9 @@ pub record BeginsTooLong (text : List ℕ) : Type 0 where
   pub long : 4096 < length text
   pub unbroken : list_any is_lf (take 4097 text) ≡ false
 
--- the state of an input that is read line by line: the current line, the number of bytes returned as lines with their LFs, the
--- bytes that were read but not returned yet, the bytes that the reader still has, if they are known, the number of reads that
--- returned bytes, whether the input has ended, and the fault that ended it, if any
+-- the state of an input that is read line by line: the current line, the number of bytes returned as lines with their
+-- LFs, the bytes that were read but not returned yet, the bytes that the reader still has, if they are known, the
+-- number of reads that returned bytes, whether the input has ended, and the fault that ended it, if any
 pub record Input : Type 0 where
   pub line : List ℕ
   pub given : ℕ
@@ -92,7 +92,8 @@ pub record GivesBytes (old new : Input) (bytes : List ℕ) : Type 0 where
   pub reads : Counts old new
   pub fault : new.fault ≡ old.fault
 
--- the input had not ended, and the next line is now its current line: the line ended with LF, or it is the last line and not empty
+-- the input had not ended, and the next line is now its current line: the line ended with LF, or it is the last line
+-- and not empty
 abbrev pub TakesInputLine : Input → Input → Type 0
 TakesInputLine old new =
     (old.ended ≡ false)
@@ -127,8 +128,8 @@ Fails LineTooLong old new = ⊥
 Fails TooLong old new = (Waits old new × (new.reads ≡ 16777216)) ⊎ Overruns old new
 Fails Read old new = Waits old new × (new.reads < 16777216)
 
--- the reason why there is no next line: the held bytes begin with a line that is too long, or they contain no LF and no more bytes
--- can be read
+-- the reason why there is no next line: the held bytes begin with a line that is too long, or they contain no LF and no
+-- more bytes can be read
 abbrev pub Halts : InputFault → Input → Input → Type 0
 Halts LineTooLong old new = Waits old new × BeginsTooLong new.held
 Halts fault old new = IsInputLine new.held × Fails fault old new
@@ -174,8 +175,8 @@ pub record HasEnded (text : List ℕ) (lines : List (List ℕ)) (now : Input) : 
 abbrev pub Given : List ℕ → List (List ℕ) → Input → Type 0
 Given text lines now = GivesLines text lines now ⊎ HasEnded text lines now
 
--- the reader returned the first part of a text, at most 16,777,216 bytes, and still has the rest. The input returned all lines that
--- end with LF in this part, and at most 4,096 bytes follow these lines.
+-- the reader returned the first part of a text, at most 16,777,216 bytes, and still has the rest. The input returned
+-- all lines that end with LF in this part, and at most 4,096 bytes follow these lines.
 pub record ReadsOn (text : List ℕ) (lines : List (List ℕ)) (now : Input) : Type 0 where
   pub read : List ℕ
   pub taken : Consumes (Some text) now.coming read
@@ -189,8 +190,8 @@ pub record ReadsOut (text : List ℕ) (lines : List (List ℕ)) (now : Input) : 
   pub full : length on.read ≡ 16777216
   pub reads : now.reads ≡ 16777216
 
--- the reader returned the first 16,777,216 bytes of a text and one more byte. The input returned all lines that end with LF before
--- that byte, and at most 4,096 bytes follow these lines.
+-- the reader returned the first 16,777,216 bytes of a text and one more byte. The input returned all lines that end
+-- with LF before that byte, and at most 4,096 bytes follow these lines.
 pub record ReadsOver (text : List ℕ) (lines : List (List ℕ)) (now : Input) : Type 0 where
   pub read : List ℕ
   pub byte : ℕ
@@ -207,7 +208,8 @@ pub record ComesToLong (text : List ℕ) (lines : List (List ℕ)) : Type 0 wher
   pub long : 4096 < length line
   pub within : length (spelled lines) + 4097 ≤ 16777216
 
--- the lines of a text that were returned before a fault: the next line is too long, the size limit is reached, or the reader failed
+-- the lines of a text that were returned before a fault: the next line is too long, the size limit is reached, or the
+-- reader failed
 abbrev pub StopsAfter : InputFault → List ℕ → List (List ℕ) → Input → Type 0
 StopsAfter LineTooLong text lines now = ComesToLong text lines
 StopsAfter TooLong text lines now = ReadsOut text lines now ⊎ ReadsOver text lines now

@@ -24,16 +24,16 @@ use Rattle.can_session.specs.Benches.{BenchState, AreCarriedOut, IsCarriedOut, I
 
 -- Running the bench over an input (own choice).
 
--- the values from which a bench may be created: a bus within its limits, a name for each interface, and a receive queue capacity
--- within its limits
+-- the values from which a bench may be created: a bus within its limits, a name for each interface, and a receive queue
+-- capacity within its limits
 pub record IsBench (names : List (List ℕ)) (config : BusConfig) (capacity : ℕ) : Type 0 where
   pub bus : IsConfig config
   pub named : length names ≡ config.ifaces
   pub some_items : 1 ≤ capacity
   pub few_items : capacity ≤ max_rx_capacity
 
--- a bench before its first line, with a fault plan, and with bit rates if its bus has them; the flag says whether the lines of
--- attempts show faults
+-- a bench before its first line, with a fault plan, and with bit rates if its bus has them; the flag says whether the
+-- lines of attempts show faults
 abbrev pub at_start_with : Bool → PlanSeen → Option BusTiming → List (List ℕ) → BusConfig → ℕ → BenchState
 at_start_with shows_faults plan timing names config capacity = record {
   capacity = capacity;
@@ -65,8 +65,8 @@ abbrev pub AreFirst : Option (List ℕ) → List (List ℕ) → Type 0
 AreFirst None lines = Unit {0}
 AreFirst (Some text) lines = (more : List (List ℕ)) × (lines_of_text text ≡ lines ++ more)
 
--- these lines and then this line are the first lines of the input; the LF of the last line, or the end of the input, is within the
--- size limit
+-- these lines and then this line are the first lines of the input; the LF of the last line, or the end of the input, is
+-- within the size limit
 abbrev pub IsNextOfInput : Option (List ℕ) → List (List ℕ) → List ℕ → Type 0
 IsNextOfInput None lines line = Unit {0}
 IsNextOfInput (Some text) lines line =
@@ -98,8 +98,8 @@ pub record Ran {W : Type 0} (contents : W → Option (List ℕ)) (verdicts : Ver
   pub carried : AreCarriedOut verdicts lines b text after
   pub wrote : Appends (contents out) (contents new) text
 
--- how a run over an input ends and which lines it carried out: all lines, or the lines before a fault. The output before a fault of
--- the writer is not specified.
+-- how a run over an input ends and which lines it carried out: all lines, or the lines before a fault. The output
+-- before a fault of the writer is not specified.
 abbrev pub EndsRun : {A W : Type 0} → (A → BenchState → Type 0) → (W → Option (List ℕ)) → VerdictMap → Option (List ℕ)
     → BenchState → W → Result A BenchFault → Input → W → Type 0
 EndsRun {A} {W} leaves contents verdicts input b out (Ok a) now new =
@@ -125,8 +125,8 @@ EndsRun {A} {W} leaves contents verdicts input b out (Err NoMemory) now new =
 EndsRun {A} {W} leaves contents verdicts input b out (Err Write) now new = Unit {0}
 EndsRun {A} {W} leaves contents verdicts input b out (Err BadConfig) now new = ⊥
 
--- the bench after a fault at a line, compared with the bench before that line; not specified for faults of the writer or a lack of
--- memory
+-- the bench after a fault at a line, compared with the bench before that line; not specified for faults of the writer
+-- or a lack of memory
 abbrev pub LeavesAt : BenchFault → BenchState → BenchState → Type 0
 LeavesAt (BadLine n) b left = IsLeftBy b left
 LeavesAt TooLong b left = left ≡ b

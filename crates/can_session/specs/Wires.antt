@@ -14,12 +14,13 @@ pub use Rattle.can_wire.specs.Schedules.{Schedule, nothing_yet}
 -- The time of attempts on a bench whose bus has bit rates (own choice; can_wire defines how long frames and attempts
 -- last, and when they begin and end on a schedule).
 
--- the schedule after this moment is set: the next attempt begins at this moment, or when the wire becomes free if that is later
+-- the schedule after this moment is set: the next attempt begins at this moment, or when the wire becomes free if that
+-- is later
 abbrev pub set_to : ℕ → Schedule → Schedule
 set_to moment s = record s { since = moment }
 
--- the moment of the next attempt: the end of the frame that it tries. An attempt without a frame has the moment of its end if an
--- interface waits for its restart, and otherwise the moment of its beginning.
+-- the moment of the next attempt: the end of the frame that it tries. An attempt without a frame has the moment of its
+-- end if an interface waits for its restart, and otherwise the moment of its beginning.
 abbrev pub moment_on : Bool → Option (ℕ × CanFrame) → Schedule → ℕ
 moment_on waits None s = if waits then next_moment None s else begin_moment s
 moment_on waits (Some (iface, frame)) s = next_moment (Some frame) s
@@ -29,8 +30,8 @@ abbrev pub attempt_moment : ℕ → Bool → Option (ℕ × CanFrame) → Option
 attempt_moment moment waits head None = moment
 attempt_moment moment waits head (Some s) = moment_on waits head (set_to moment s)
 
--- the schedule after an attempt with this verdict. An attempt without a frame takes 11 bit times if an interface waited for its
--- restart, and otherwise no time.
+-- the schedule after an attempt with this verdict. An attempt without a frame takes 11 bit times if an interface waited
+-- for its restart, and otherwise no time.
 abbrev pub schedule_after : Bool → Verdict → Attempt → Schedule → Schedule
 schedule_after waits v (attempt.Tried t) s = after_tried t.frame t.class v s
 schedule_after waits v (attempt.Idle restarted) s = if waits then after_idle s else after_no_time s

@@ -25,8 +25,8 @@ pub record StationSeen : Type 0 where
 abbrev pub station_seen : ℕ → BusConfig → StationSeen
 station_seen number config = record { number = number; config = config }
 
--- The state that the station's lock protects: the station's number, its bus, the calls of each pass, the source of verdicts, the
--- plan of faults, the lines about the plan's rules, and whether the station was stopped.
+-- The state that the station's lock protects: the station's number, its bus, the calls of each pass, the source of
+-- verdicts, the plan of faults, the lines about the plan's rules, and whether the station was stopped.
 pub record Held (F : Type 0) : Type 0 where
   pub number : ℕ
   pub journal : Journal
@@ -61,7 +61,8 @@ with_plan_lines plan changes h = record h { plan = plan; changes = changes }
 abbrev pub next_number : {F : Type 0} → Held F → ℕ
 next_number h = length (tape h.journal.history)
 
--- If the rule in this string is accepted, the plan may change and a line for the rule is appended. Otherwise nothing changes.
+-- If the rule in this string is accepted, the plan may change and a line for the rule is appended. Otherwise nothing
+-- changes.
 abbrev pub TakesRule : {F : Type 0} → List ℕ → Held F → Result (Unit {0}) RuleRefusal → Held F → Type 0
 TakesRule words old (Ok done) new = new ≡ with_plan_lines new.plan (with_given (next_number old) words old.changes) old
 TakesRule words old (Err why) new = new ≡ old

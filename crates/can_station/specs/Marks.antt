@@ -21,8 +21,8 @@ pub record IsMarked (lists : List (List Entry)) (marks : List ℕ) (past : List 
   pub below : AllBelow (length lists) marks
   pub each : (p : ℕ) → row lists p ≡ marked p marks past
 
--- The state under the lock is consistent: the bus's history is legal, its entries can be marked so that they match the roll, and no
--- pass has been taken back.
+-- The state under the lock is consistent: the bus's history is legal, its entries can be marked so that they match the
+-- roll, and no pass has been taken back.
 pub record IsBooked (roll : RollSeen) (journal : Journal) : Type 0 where
   pub proper : IsLongConfig journal.config
   pub legal : IsLegal journal.config journal.history

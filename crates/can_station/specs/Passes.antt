@@ -77,8 +77,8 @@ abbrev pub AreListedCalls : Option (List Entry) → List Entry → Type 0
 AreListedCalls None calls = Unit {0}
 AreListedCalls (Some listed) calls = listed ≡ calls
 
--- The list has memory for any call except a close: room for the call, room for a later close, and spare memory for a wide entry. A
--- pass without a list needs no memory.
+-- The list has memory for any call except a close: room for the call, room for a later close, and spare memory for a
+-- wide entry. A pass without a list needs no memory.
 abbrev pub HasMemoryForCall : Option ListedEntries → Type 0
 HasMemoryForCall None = Unit {0}
 HasMemoryForCall (Some calls) = (length calls.entries + 1 < calls.room) × (calls.spare ≡ true)
@@ -109,8 +109,8 @@ Called told number old e (Err station.WrongStation) new = ¬ (old.number ≡ num
 abbrev pub IsAnsweredIn : {F : Type 0} → Held F → Event → Reply → Type 0
 IsAnsweredIn held e r = IsAnswer held.journal.config held.journal.history e r
 
--- The event is carried out for the pass with this slip. The bus gives its reply, and the event and the reply are noted in the
--- record and in the slip.
+-- The event is carried out for the pass with this slip. The bus gives its reply, and the event and the reply are noted
+-- in the record and in the slip.
 pub record IsCarriedOutForSlip {F : Type 0} (old : Held F) (slip : SlipSeen) (e : Event) (r : Reply) (new : Held F)
     (slip' : SlipSeen) : Type 0 where
   pub answer : IsAnsweredIn old e r
@@ -143,7 +143,8 @@ listed_after e r (Some listed) = Some (history_after e r listed)
 abbrev pub Keeps : Option ListedEntries → Event → Reply → Option ListedEntries → Type 0
 Keeps old e r new = calls_listed new ≡ listed_after e r (calls_listed old)
 
--- The call is carried out. The bus gives its reply, and the call and the reply are noted in the record and in the caller's pass.
+-- The call is carried out. The bus gives its reply, and the call and the reply are noted in the record and in the
+-- caller's pass.
 pub record IsMade {F : Type 0} (old : Held F) (pass : PassSeen) (e : Event) (r : Reply) (new : Held F)
     (pass' : PassSeen) : Type 0 where
   pub own : pass.number ≡ old.number
@@ -193,7 +194,8 @@ asked_for_attempt verdicts source held = record held { source = source; plan = n
 abbrev pub next_attempt : {F : Type 0} → (F → VerdictMap) → Held F → ℕ → Event
 next_attempt verdicts held moment = event.Attempt moment (next_verdict verdicts held)
 
--- The next attempt is carried out for the pass with this slip, after the source and the plan have been queried for the verdict.
+-- The next attempt is carried out for the pass with this slip, after the source and the plan have been queried for the
+-- verdict.
 abbrev pub IsStepped : {F : Type 0} → (F → VerdictMap) → Held F → SlipSeen → ℕ → Reply → Held F → SlipSeen → Type 0
 IsStepped verdicts old slip moment r new slip' =
     IsCarriedOutForSlip (asked_for_attempt verdicts new.source old) slip (next_attempt verdicts old moment) r new slip'
@@ -203,8 +205,8 @@ abbrev pub IsStepMade : {F : Type 0} → (F → VerdictMap) → Held F → PassS
 IsStepMade verdicts old pass moment r new pass' =
     IsMade (asked_for_attempt verdicts new.source old) pass (next_attempt verdicts old moment) r new pass'
 
--- A step under the lock carries out the next attempt or changes nothing. It fails if the pass's list cannot grow, the bus has no
--- room for an entry, or the pass belongs to another station.
+-- A step under the lock carries out the next attempt or changes nothing. It fails if the pass's list cannot grow, the
+-- bus has no room for an entry, or the pass belongs to another station.
 abbrev pub MadeStep : {F : Type 0} → (F → VerdictMap) → Held F → PassSeen → ℕ → Result Attempt StationRefusal
     → Held F → PassSeen → Type 0
 MadeStep verdicts old pass moment (Ok a) new pass' = IsStepMade verdicts old pass moment (reply.Attempted a) new pass'
@@ -255,8 +257,8 @@ IsNewLightPass F station p =
 abbrev pub HadNoPassLeft : (F : Type 0) → StationSeen → Type 0
 HadNoPassLeft F station = InSome F station (λ held. NoPassLeft held)
 
--- The bus gives this result in some state of the station. Nothing is claimed if an allocation fails or the pass belongs to another
--- station.
+-- The bus gives this result in some state of the station. Nothing is claimed if an allocation fails or the pass belongs
+-- to another station.
 abbrev pub Answered : (F : Type 0) {A : Type 0} → (A → Reply) → StationSeen → Event → Result A StationRefusal → Type 0
 Answered F told seen e (Ok a) = InSome F seen (λ held. IsAnsweredIn held e (told a))
 Answered F told seen e (Err (station.Bus refusal.NoMemory)) = Unit {0}

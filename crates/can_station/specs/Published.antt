@@ -27,8 +27,8 @@ abbrev pub published_after : ErrorCounts → ErrorCounts → ℕ → List Status
 published_after old new at before =
     if are_same old new then before else record { at = at; counters = new } ∷ before
 
--- The publications of interface i, newest first. Each entry that changes the interface's error counters adds a publication: the
--- length of the record including that entry, and the new counters.
+-- The publications of interface i, newest first. Each entry that changes the interface's error counters adds a
+-- publication: the length of the record including that entry, and the new counters.
 abbrev pub publications_of : BusConfig → List Entry → ℕ → List Status
 publications_of c [] i = []
 publications_of c (e ∷ past) i =

@@ -1,4 +1,4 @@
-//! Files that are written under a temporary name and are renamed once they are complete. Until then, the file of an earlier run
+//! Files that are written under another name and are renamed once they are complete. Until then, the file of an earlier run
 //! stays unchanged.
 use crate::files::open_failure;
 use crate::report::Report;
